@@ -1,0 +1,19 @@
+-- From the ground up: rings and fields, finite sets, primes and their residues, polynomials, linear systems.
+pub mod Ring
+pub mod Solver
+pub mod Field
+pub mod Sets
+pub mod Remainder
+pub mod Prime
+pub mod Trial
+pub mod Fermat
+pub mod Power
+pub mod Residues
+pub mod Product
+pub mod Arithmetic
+pub mod Polynomial
+pub mod Series
+pub mod Divide
+pub mod Gcd
+pub mod Fraction
+pub mod Linear
