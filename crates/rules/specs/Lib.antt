@@ -1,0 +1,10 @@
+-- Document 01 in its order. What a reader must believe: Numbers, Sketches, Messages, Differences, Refusals,
+-- Calls. What is shown of them: Slots, Cases.
+pub mod Numbers
+pub mod Slots
+pub mod Sketches
+pub mod Messages
+pub mod Differences
+pub mod Refusals
+pub mod Calls
+pub mod Cases

@@ -1,0 +1,109 @@
+// What document 01 speaks of: a sketch, the answers that a call can give, and the number and place of each.
+// The meaning of all this stands in specs/, in the order and the words of that document.
+ghost use mathlib.Core.Path.{_≡_};
+ghost use Rattle.rules.specs.Refusals.{numberOf, placeOf};
+
+// A plan code, the size of the set, and its values at the sample points: the first as many as the plan has samples, the others 0.
+pub struct Sketch {
+    pub plan: u8,
+    pub size: u32,
+    pub values: [u32; 64],
+}
+
+// Why a call refuses, each with its number in document 01; where it has a place, the variant holds it.
+pub enum Refusal {
+    // 1: plan above 15 and not 255
+    UnknownPlan,
+    // 2: list longer than 16,384
+    LongList,
+    // 3: key above 65,472, at its index
+    LargeKey(u32),
+    // 4: key not above the one before it, at its index
+    UnorderedKey(u32),
+    // 5: buffer too short, 0 first or only, 1 second
+    ShortBuffer(u32),
+    // 6: malformed sketch
+    MalformedSketch,
+    // 7: message empty, or not of its plan's length
+    WrongLength,
+    // 8: version not 1
+    UnknownVersion,
+    // 9: size field above 16,384
+    LargeSize,
+    // 10: value field 0 or above 65,536, at its sample, from 0
+    BadValue(u32),
+    // 11: a padding bit set
+    PaddingSet,
+    // 12: size gap below −m or above m
+    LargeGap,
+    // 13: no difference exists
+    NoDifference,
+    // 14: add at size 16,384
+    FullSketch,
+    // 15: remove at size 0
+    EmptySketch,
+}
+
+// What a call answers beside its result.
+pub enum Answer {
+    Done,
+    Refused(Refusal),
+}
+
+// An answer with the sketch that comes with it.
+pub struct Sketched {
+    pub answer: Answer,
+    pub sketch: Sketch,
+}
+
+// The number of an answer: 0 for success, else that of the refusal.
+pub fn number(answer: Answer) -> u32
+    ensures { λ r. ⌜ r ≡ numberOf answer ⌝ }
+{
+    match answer {
+        Answer::Done => 0,
+        Answer::Refused(refusal) => match refusal {
+            Refusal::UnknownPlan => 1,
+            Refusal::LongList => 2,
+            Refusal::LargeKey(_) => 3,
+            Refusal::UnorderedKey(_) => 4,
+            Refusal::ShortBuffer(_) => 5,
+            Refusal::MalformedSketch => 6,
+            Refusal::WrongLength => 7,
+            Refusal::UnknownVersion => 8,
+            Refusal::LargeSize => 9,
+            Refusal::BadValue(_) => 10,
+            Refusal::PaddingSet => 11,
+            Refusal::LargeGap => 12,
+            Refusal::NoDifference => 13,
+            Refusal::FullSketch => 14,
+            Refusal::EmptySketch => 15,
+        },
+    }
+}
+
+// The place of an answer: 0 for success and wherever document 01 names none.
+pub fn place(answer: Answer) -> u32
+    ensures { λ r. ⌜ r ≡ placeOf answer ⌝ }
+{
+    match answer {
+        Answer::Done => 0,
+        Answer::Refused(refusal) => match refusal {
+            Refusal::UnknownPlan => 0,
+            Refusal::LongList => 0,
+            Refusal::LargeKey(index) => index,
+            Refusal::UnorderedKey(index) => index,
+            Refusal::ShortBuffer(position) => position,
+            Refusal::MalformedSketch => 0,
+            Refusal::WrongLength => 0,
+            Refusal::UnknownVersion => 0,
+            Refusal::LargeSize => 0,
+            Refusal::BadValue(sample) => sample,
+            Refusal::PaddingSet => 0,
+            Refusal::LargeGap => 0,
+            Refusal::NoDifference => 0,
+            Refusal::FullSketch => 0,
+            Refusal::EmptySketch => 0,
+        },
+    }
+}
