@@ -1,5 +1,5 @@
 -- Document 01 in its order. What a reader must believe: Numbers, Sketches, Messages, Differences, Refusals,
--- Calls. What is shown of them: Slots, Cases.
+-- Calls. What is shown of them: Slots, Tests, Plans, Formed, Legal, Cases.
 pub mod Numbers
 pub mod Slots
 pub mod Sketches
@@ -7,4 +7,8 @@ pub mod Messages
 pub mod Differences
 pub mod Refusals
 pub mod Calls
+pub mod Tests
+pub mod Plans
+pub mod Formed
+pub mod Legal
 pub mod Cases

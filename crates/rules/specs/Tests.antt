@@ -1,0 +1,40 @@
+-- What a chain of tests tells.
+--
+--   and-true, true-and     both parts of a conjunction that is true, and back
+--   when-done, done-when   a test that refuses nothing is false, and back
+--   then-done, done-then   a chain that refuses nothing has no part that does, and back
+--   refused-not-done       a refusal is no success
+--
+-- Assumes nothing.
+use mathlib.Core.Path.{_≡_, refl, ap}
+use mathlib.Core.Bool.{Bool, true, false, _&&_}
+use Prim.Native.Nat.{ℕ}
+use native.Mathlib.Omega.{arith}
+use Rattle.rules.specs.Refusals.{when, _then_}
+use Rattle.rules.specs.declared.Refusal.{Refusal}
+use Rattle.rules.specs.declared.Answer.{Answer}
+use Rattle.rules.specs.declared.Answer.the-variants.{Done, Refused}
+
+pub and-true : (a b : Bool) → a && b ≡ true → (a ≡ true) × (b ≡ true)
+and-true true b e = (refl, e)
+and-true false b e = (e, cc)
+
+pub true-and : (a b : Bool) → a ≡ true → b ≡ true → a && b ≡ true
+true-and a b e f = rw (e, f)
+
+pub refused-not-done : (r : Refusal) → ¬ (Refused r ≡ Done)
+refused-not-done r e = let z : _≡_ {A = ℕ} 0 1 = cc in omega arith
+
+pub when-done : (t : Bool) (r : Refusal) → when t r ≡ Done → t ≡ false
+when-done true r e = absurd (refused-not-done r e)
+when-done false r e = refl
+
+pub done-when : (t : Bool) (r : Refusal) → t ≡ false → when t r ≡ Done
+done-when t r e = ap (λ b. when b r) e
+
+pub then-done : (a b : Answer) → (a then b) ≡ Done → (a ≡ Done) × (b ≡ Done)
+then-done Done b e = (refl, e)
+then-done (Refused r) b e = absurd (refused-not-done r e)
+
+pub done-then : (a b : Answer) → a ≡ Done → b ≡ Done → (a then b) ≡ Done
+done-then a b e f = rw (e, f)
