@@ -1,18 +1,29 @@
--- Divisibility of polynomials over a field: cancellation, degrees, roots, and the lemma that reads two disjoint sets off a reduced fraction.
+-- Divisibility of polynomials over a field: degrees, cancellation, divisors, roots.
+--
+--   HasDegree p n, degree    the last coefficient of p that is not 0 is that of Zⁿ; every p is 0 or has such an n
+--   mul-top, mul-past        the top coefficient of a product, and none above it
+--   mul-monic                monic times monic is monic, of the sum of the degrees
+--   cancelˢ                  a factor that is not 0 may be struck out
+--   Divides d p              p is d times some polynomial
+--   value-ext                the same coefficients, the same values
+--   chi-cons, roots-divide   chi of one key more; a polynomial with the distinct roots s is a multiple of chi s
+--   unit-const               what divides 1 is a constant
+--   rest-monic               what a monic divisor leaves of a monic polynomial is monic
+--
+-- Assumes nothing.
 use mathlib.Core.Path.{_≡_, refl, sym, _∙_, ap, ap₂, fun-ext}
 use mathlib.Core.Logic.{_⊎_, inl, inr, ⊎-elim}
-use mathlib.Core.List.{List, [], _∷_, List·Memᴰ, List·Memᴰ·head, List·Memᴰ·tail, Memᴰ·cast}
-use Prim.Native.Nat.{ℕ, zero, suc, _≤_, _<_, _+_ as _+ℕ_}
+use mathlib.Core.List.{List, [], _∷_, List·Memᴰ·head, List·Memᴰ·tail, Memᴰ·cast}
+use Prim.Native.Nat.{ℕ, zero, suc, _<_, _+_ as _+ℕ_}
 use native.Mathlib.Omega.{arith}
 use native.Mathlib.Nat.{eq-or-lt-of-le}
 use native.Mathlib.Decide.{decLt}
-use lib.ListN.{length, getD}
-use Rattle.algebra.specs.Ring.{CRing, add-zero, add-neg, zero-mul, mul-zero, mul-one, neg-zero, add-left-comm, sub-eq-zero}
+use Rattle.algebra.specs.Ring.{CRing, add-zero, add-neg, zero-mul, mul-zero, sub-eq-zero}
 use Rattle.algebra.specs.Field.{Field, mul-cancel, mul-eq-zero}
-use Rattle.algebra.specs.Sets.{_∈_, _⊆_, Distinct}
-use Rattle.algebra.specs.Solver.{Ex, _⊕_, _⊝_, _⊗_, ⊖, #0, #1, by-ring}
-use Rattle.algebra.specs.Polynomial.{coeff, value, addᴾ, mulᴾ, scaleᴾ, negᴾ, with-root, quot, chi, Below, Monic, coeff-add, coeff-scale, coeff-neg, coeff-root, value-zero, value-mul, quot-value, factor, chi-monic, chi-root}
-use Rattle.algebra.specs.Series.{series, cauchy, constant, shift, Z, cauchy-last, cauchy-comm, cauchy-zero, cauchy-constant, add-at, neg-at, mul-at, zero-at, one-at, coeff-addˢ, coeff-mulˢ, coeff-negˢ, coeff-constant, coeff-one, coeff-nil}
+use Rattle.algebra.specs.Sets.{_∈_, Distinct}
+use Rattle.algebra.specs.Solver.{_⊕_, _⊝_, _⊗_, #0, by-ring}
+use Rattle.algebra.specs.Polynomial.{coeff, value, mulᴾ, with-root, quot, chi, Monic, coeff-add, coeff-root, value-zero, quot-value, factor}
+use Rattle.algebra.specs.Series.{series, cauchy, constant, shift, Z, cauchy-last, cauchy-comm, cauchy-zero, cauchy-constant, add-at, neg-at, mul-at, zero-at, one-at, coeff-mulˢ, coeff-one, coeff-nil}
 
 module _ {F : Type 0} (𝓕 : Field F) where
   infixl 68 _+_ _+ˢ_
@@ -57,6 +68,23 @@ module _ {F : Type 0} (𝓕 : Field F) where
   mul-top (suc n) m (suc N) f g hf hg e = ap₂ (λ u v. f 0 * u + v) (hg (suc N) (omega arith)) (mul-top n m N (shift 𝓡 f) g (λ k l. hf (suc k) (omega arith)) hg (omega arith))
       ∙ ap (λ y. y + f (suc n) * g m) (mul-zero 𝓡 _) ∙ zero-add _
 
+  -- a product has no term past the sum of the degrees
+  pub mul-past : (n m N : ℕ) (f g : ℕ → F) → ((k : ℕ) → n < k → f k ≡ 𝟘) → ((k : ℕ) → m < k → g k ≡ 𝟘) → n +ℕ m < N → cauchy 𝓡 f g N ≡ 𝟘
+  mul-past n m zero f g hf hg l = absurd (omega arith)
+  mul-past zero m (suc N) f g hf hg l = ap₂ (λ u v. f 0 * u + v) (hg (suc N) (omega arith)) (ap (λ s. cauchy 𝓡 s g N) (fun-ext (λ k. hf (suc k) (omega arith))) ∙ cauchy-zero 𝓡 g N)
+      ∙ by-ring 𝓡 1 (λ x. (x ⊗ #0 ⊕ #0, #0)) refl (f 0)
+  mul-past (suc n) m (suc N) f g hf hg l = ap₂ (λ u v. f 0 * u + v) (hg (suc N) (omega arith)) (mul-past n m N (shift 𝓡 f) g (λ k h. hf (suc k) (omega arith)) hg (omega arith))
+      ∙ by-ring 𝓡 1 (λ x. (x ⊗ #0 ⊕ #0, #0)) refl (f 0)
+
+  pub mul-monic : (n m : ℕ) (p q : List F) → Monic 𝓡 n p → Monic 𝓡 m q → Monic 𝓡 (n +ℕ m) (mulᴾ 𝓡 p q)
+  mul-monic n m p q hp hq = record {
+    top = at (n +ℕ m) ∙ mul-top n m (n +ℕ m) (coeff 𝓡 p) (coeff 𝓡 q) (hp .above) (hq .above) refl ∙ ap₂ _*_ (hp .top) (hq .top) ∙ one-mul 𝟙;
+    above = λ k l. at k ∙ mul-past n m k (coeff 𝓡 p) (coeff 𝓡 q) (hp .above) (hq .above) l;
+  }
+    where
+      at : (k : ℕ) → coeff 𝓡 (mulᴾ 𝓡 p q) k ≡ cauchy 𝓡 (coeff 𝓡 p) (coeff 𝓡 q) k
+      at k = ap (λ s. s k) (coeff-mulˢ 𝓡 p q) ∙ mul-at 𝓡 (coeff 𝓡 p) (coeff 𝓡 q) k
+
   -- p is zero, or has a leading term
   pub record HasDegree (p : List F) (n : ℕ) : Type 0 where
     pub some : ¬ (coeff 𝓡 p n ≡ 𝟘)
@@ -83,6 +111,24 @@ module _ {F : Type 0} (𝓕 : Field F) where
       go (inl z) (no h) = inr (0, record { some = h; above = up₀ z })
       go (inr t) d = inr (suc (t .0), record { some = t .1 .some; above = up (t .0) (t .1) })
 
+  -- what is left of a monic polynomial by a monic divisor is monic
+  pub rest-monic : (n k : ℕ) (P g P′ : List F) → Monic 𝓡 n P → Monic 𝓡 k g → coeff 𝓡 P ≡ coeff 𝓡 g *ˢ coeff 𝓡 P′ → (d : ℕ) × Monic 𝓡 d P′
+  rest-monic n k P g P′ mP mg e = go (degree P′)
+    where
+      at : (j : ℕ) → coeff 𝓡 P j ≡ cauchy 𝓡 (coeff 𝓡 g) (coeff 𝓡 P′) j
+      at j = ap (λ s. s j) e ∙ mul-at 𝓡 (coeff 𝓡 g) (coeff 𝓡 P′) j
+
+      go : ((j : ℕ) → coeff 𝓡 P′ j ≡ 𝟘) ⊎ ((d : ℕ) × HasDegree P′ d) → (d : ℕ) × Monic 𝓡 d P′
+      go (inl z) = absurd (one-ne-zero (sym (mP .top) ∙ at n ∙ ap (λ s. cauchy 𝓡 (coeff 𝓡 g) s n) (fun-ext z) ∙ cauchy-comm 𝓡 (coeff 𝓡 g) (λ _. 𝟘) n ∙ cauchy-zero 𝓡 (coeff 𝓡 g) n))
+      go (inr t) = (t .0, record { top = sym top ∙ end (decLt (k +ℕ t .0) n); above = t .1 .above })
+        where
+          top : coeff 𝓡 P (k +ℕ t .0) ≡ coeff 𝓡 P′ (t .0)
+          top = at (k +ℕ t .0) ∙ mul-top k (t .0) (k +ℕ t .0) (coeff 𝓡 g) (coeff 𝓡 P′) (mg .above) (t .1 .above) refl ∙ ap (λ y. y * coeff 𝓡 P′ (t .0)) (mg .top) ∙ one-mul _
+
+          end : Dec (k +ℕ t .0 < n) → coeff 𝓡 P (k +ℕ t .0) ≡ 𝟙
+          end (yes l) = absurd (one-ne-zero (sym (mP .top) ∙ at n ∙ mul-past k (t .0) n (coeff 𝓡 g) (coeff 𝓡 P′) (mg .above) (t .1 .above) l))
+          end (no l) = ⊎-elim (λ e. rw e at (mP .top)) (λ l′. absurd (t .1 .some (sym top ∙ mP .above (k +ℕ t .0) l′))) (eq-or-lt-of-le {n = n} {m = k +ℕ t .0} (omega arith))
+
   abbrev pub Divides : List F → List F → Type 0
   Divides d p = (q : List F) × (coeff 𝓡 p ≡ coeff 𝓡 d *ˢ coeff 𝓡 q)
 
@@ -92,7 +138,7 @@ module _ {F : Type 0} (𝓕 : Field F) where
   value-ext (a ∷ p) [] h x = value-zero 𝓡 (a ∷ p) h x
   value-ext (a ∷ p) (b ∷ q) h x = ap₂ (λ u v. u + x * v) (h 0) (value-ext p q (λ k. h (suc k)) x)
 
-  value-at : (p q : List F) → coeff 𝓡 p ≡ coeff 𝓡 q → (x : F) → value 𝓡 p x ≡ value 𝓡 q x
+  pub value-at : (p q : List F) → coeff 𝓡 p ≡ coeff 𝓡 q → (x : F) → value 𝓡 p x ≡ value 𝓡 q x
   value-at p q e = value-ext p q (λ k. ap (λ s. s k) e)
 
   -- Z - a
@@ -149,72 +195,3 @@ module _ {F : Type 0} (𝓕 : Field F) where
       go (inl z) d n lt = z n
       go (inr t) (inl z) n lt = absurd (one-ne-zero (sym (at 0) ∙ ap (λ y. coeff 𝓡 k 0 * y) (z 0) ∙ mul-zero 𝓡 _))
       go (inr t) (inr u) n lt = two (t .0) (u .0) (t .1) (u .1) (t .0 +ℕ u .0) refl n lt
-
-  abbrev pub χ : List F → ℕ → F
-  χ s = coeff 𝓡 (chi 𝓡 s)
-
-  -- The two sets behind a fraction: P / Q is chi T / chi O, and is g * P′ / g * Q′ with g a greatest common divisor.
-  module _ (T O P Q g P′ Q′ : List F) (distinct : Distinct T) (disjoint : (x : F) → x ∈ T → x ∈ O → ⊥)
-      (cross : coeff 𝓡 P *ˢ coeff 𝓡 (chi 𝓡 O) ≡ coeff 𝓡 Q *ˢ coeff 𝓡 (chi 𝓡 T)) (isP : coeff 𝓡 P ≡ coeff 𝓡 g *ˢ coeff 𝓡 P′) (isQ : coeff 𝓡 Q ≡ coeff 𝓡 g *ˢ coeff 𝓡 Q′)
-      (m : ℕ) (g-some : ¬ (coeff 𝓡 g m ≡ 𝟘)) (greatest : (d : List F) → Divides d P → Divides d Q → Divides d g) where
-    cross′ : coeff 𝓡 P′ *ˢ χ O ≡ coeff 𝓡 Q′ *ˢ χ T
-    cross′ = cancelˢ m (coeff 𝓡 g) _ _ g-some (sym (𝓢 .mul-assoc _ _ _) ∙ ap (λ y. y *ˢ χ O) (sym isP) ∙ cross ∙ ap (λ y. y *ˢ χ T) isQ ∙ 𝓢 .mul-assoc _ _ _)
-
-    P′-roots : (x : F) → x ∈ T → value 𝓡 P′ x ≡ 𝟘
-    P′-roots x i = mul-cancel 𝓕 (value 𝓡 (chi 𝓡 O) x) (value 𝓡 P′ x) (λ z. disjoint x i (chi-root 𝓕 O x .0 z))
-        (mul-comm _ _ ∙ sym (value-mul 𝓡 P′ (chi 𝓡 O) x)
-        ∙ value-at (mulᴾ 𝓡 P′ (chi 𝓡 O)) (mulᴾ 𝓡 Q′ (chi 𝓡 T)) (coeff-mulˢ 𝓡 P′ (chi 𝓡 O) ∙ cross′ ∙ sym (coeff-mulˢ 𝓡 Q′ (chi 𝓡 T))) x
-        ∙ value-mul 𝓡 Q′ (chi 𝓡 T) x ∙ ap (λ y. value 𝓡 Q′ x * y) (chi-root 𝓕 T x .1 i) ∙ mul-zero 𝓡 _)
-
-    -- for each k with P′ = chi T * k
-    module _ (k : List F) (isP′ : coeff 𝓡 P′ ≡ χ T *ˢ coeff 𝓡 k) where
-      isQ′ : coeff 𝓡 Q′ ≡ χ O *ˢ coeff 𝓡 k
-      isQ′ = cancelˢ (length T) (χ T) _ _ (λ e. one-ne-zero (sym (chi-monic 𝓡 T .top) ∙ e))
-          (𝓢 .mul-comm _ _ ∙ sym cross′ ∙ ap (λ y. y *ˢ χ O) isP′ ∙ by-ring 𝓢 3 (λ t k o. (t ⊗ k ⊗ o, t ⊗ (o ⊗ k))) refl (χ T) (coeff 𝓡 k) (χ O))
-
-      gk : Divides (mulᴾ 𝓡 g k) g
-      gk = greatest (mulᴾ 𝓡 g k) (chi 𝓡 T, part P P′ T isP isP′) (chi 𝓡 O, part Q Q′ O isQ isQ′)
-        where
-          part : (A A′ S : List F) → coeff 𝓡 A ≡ coeff 𝓡 g *ˢ coeff 𝓡 A′ → coeff 𝓡 A′ ≡ coeff 𝓡 (chi 𝓡 S) *ˢ coeff 𝓡 k → coeff 𝓡 A ≡ coeff 𝓡 (mulᴾ 𝓡 g k) *ˢ coeff 𝓡 (chi 𝓡 S)
-          part A A′ S e e′ = e ∙ ap (λ y. coeff 𝓡 g *ˢ y) e′ ∙ by-ring 𝓢 3 (λ g s k. (g ⊗ (s ⊗ k), g ⊗ k ⊗ s)) refl (coeff 𝓡 g) (coeff 𝓡 (chi 𝓡 S)) (coeff 𝓡 k)
-              ∙ ap (λ y. y *ˢ coeff 𝓡 (chi 𝓡 S)) (sym (coeff-mulˢ 𝓡 g k))
-
-      k-unit : coeff 𝓡 k *ˢ coeff 𝓡 (gk .0) ≡ 𝟙ˢ
-      k-unit = cancelˢ m (coeff 𝓡 g) _ _ g-some (sym (gk .1 ∙ ap (λ y. y *ˢ coeff 𝓡 (gk .0)) (coeff-mulˢ 𝓡 g k) ∙ 𝓢 .mul-assoc _ _ _) ∙ by-ring 𝓢 1 (λ g. (g, g ⊗ #1)) refl (coeff 𝓡 g))
-
-      k-constant : coeff 𝓡 k ≡ constant 𝓡 (coeff 𝓡 k 0)
-      k-constant = fun-ext go
-        where
-          go : (n : ℕ) → coeff 𝓡 k n ≡ constant 𝓡 (coeff 𝓡 k 0) n
-          go zero = refl
-          go (suc n) = unit-const k (gk .0) k-unit (suc n) (omega arith)
-
-      k-some : ¬ (coeff 𝓡 k 0 ≡ 𝟘)
-      k-some e = one-ne-zero (sym (sym (mul-at 𝓡 (coeff 𝓡 k) (coeff 𝓡 (gk .0)) 0) ∙ ap (λ s. s 0) k-unit ∙ one-at 𝓡 0) ∙ ap (λ y. y * coeff 𝓡 (gk .0) 0) e ∙ zero-mul 𝓡 _)
-
-      -- with P′ monic, k is 1
-      k-one : (d : ℕ) → Monic 𝓡 d P′ → coeff 𝓡 k ≡ 𝟙ˢ
-      k-one d h = k-constant ∙ ap (constant 𝓡) (go (decLt (length T) d)) ∙ sym (fun-ext (one-at 𝓡))
-        where
-          coP : (n : ℕ) → coeff 𝓡 P′ n ≡ coeff 𝓡 k 0 * χ T n
-          coP n = ap (λ s. s n) (isP′ ∙ 𝓢 .mul-comm _ _ ∙ ap (λ y. y *ˢ χ T) k-constant) ∙ mul-at 𝓡 (constant 𝓡 (coeff 𝓡 k 0)) (χ T) n ∙ cauchy-constant 𝓡 (coeff 𝓡 k 0) (χ T) n
-
-          top : coeff 𝓡 P′ (length T) ≡ coeff 𝓡 k 0
-          top = coP (length T) ∙ ap (λ y. coeff 𝓡 k 0 * y) (chi-monic 𝓡 T .top) ∙ mul-one 𝓡 _
-
-          same : (d ≡ length T) ⊎ (d < length T) → coeff 𝓡 k 0 ≡ 𝟙
-          same (inl e) = sym top ∙ rw e at (h .top)
-          same (inr l) = absurd (k-some (sym top ∙ h .above (length T) l))
-
-          go : Dec (length T < d) → coeff 𝓡 k 0 ≡ 𝟙
-          go (yes l) = absurd (one-ne-zero (sym (h .top) ∙ coP d ∙ ap (λ y. coeff 𝓡 k 0 * y) (chi-monic 𝓡 T .above d l) ∙ mul-zero 𝓡 _))
-          go (no n) = same (eq-or-lt-of-le (omega arith))
-
-    pub read-off : (d : ℕ) → Monic 𝓡 d P′ → (coeff 𝓡 P′ ≡ χ T) × (coeff 𝓡 Q′ ≡ χ O)
-    read-off d h = go (roots-divide T distinct P′ P′-roots)
-      where
-        go : Divides (chi 𝓡 T) P′ → (coeff 𝓡 P′ ≡ χ T) × (coeff 𝓡 Q′ ≡ χ O)
-        go t = (t .1 ∙ ap (λ y. χ T *ˢ y) one ∙ mul-one 𝓢 _, isQ′ (t .0) (t .1) ∙ ap (λ y. χ O *ˢ y) one ∙ mul-one 𝓢 _)
-          where
-            one : coeff 𝓡 (t .0) ≡ 𝟙ˢ
-            one = k-one (t .0) (t .1) d h

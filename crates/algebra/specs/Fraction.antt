@@ -1,57 +1,121 @@
--- Set reconciliation: monic P and Q whose fraction agrees with chi T / chi O at enough points give T and O, once reduced.
+-- The two sets behind a fraction of polynomials, over any field: the argument of reconciliation.
+--
+--   χ s            the coefficients of chi s
+--   read-off       from P·χ_O = Q·χ_T, T and O disjoint, T without repeats, P = g·P′ and Q = g·Q′ with g a greatest common
+--                  divisor and P′ monic: P′ is χ_T and Q′ is χ_O
+--   decode         the same from equations at enough points: monic P and Q of the right degrees whose fraction agrees there
+--                  with χ_T / χ_O
+--   reconcile      the same for two sets A and B and their values: reduced, the fraction is A without B over B without A
+--   roots-are      the roots of what was found are the set
+--   one-theirs, one-ours   two pairs of sets, each new to B and within B, whose fractions agree at enough points
+--                  are one pair: a difference is unique
+--
+-- Assumes nothing.
 use mathlib.Core.Path.{_≡_, refl, sym, _∙_, ap, ap₂, fun-ext, subst}
 use mathlib.Core.Logic.{_⊎_, inl, inr, ⊎-elim, _↔_}
-use mathlib.Core.List.{List, [], _∷_, _++_, List·Memᴰ, List·Memᴰ·head, List·Memᴰ·tail, Memᴰ·cast}
+use mathlib.Core.List.{List}
 use Prim.Native.Nat.{ℕ, zero, suc, _≤_, _<_, _+_ as _+ℕ_}
 use native.Mathlib.Omega.{arith}
 use native.Mathlib.Nat.{eq-or-lt-of-le}
-use native.Mathlib.Decide.{decLe, decLt}
-use lib.ListN.{length, getD}
+use native.Mathlib.Decide.{decLt}
+use lib.ListN.{length}
 use lib.Seq.{ext-getD}
-use Rattle.algebra.specs.Ring.{CRing, add-zero, add-neg, zero-mul, mul-zero, mul-one, sub-eq-zero}
-use Rattle.algebra.specs.Field.{Field, mul-cancel}
-use Rattle.algebra.specs.Solver.{Ex, _⊕_, _⊝_, _⊗_, ⊖, #0, #1, by-ring}
-use Rattle.algebra.specs.Polynomial.{coeff, value, mulᴾ, chi, Below, Monic, agree, chi-monic, chi-root, value-mul, value-chi}
-use Rattle.algebra.specs.Series.{series, cauchy, shift, cauchy-zero, cauchy-comm, mul-at, zero-at, coeff-mulˢ}
-use Rattle.algebra.specs.Divide.{HasDegree, degree, Divides, mul-top, read-off, χ, value-ext}
+use Rattle.algebra.specs.Ring.{CRing, zero-mul, mul-zero, mul-one, sub-eq-zero}
+use Rattle.algebra.specs.Field.{Field, mul-cancel, mul-eq-zero, cancel-left}
+use Rattle.algebra.specs.Solver.{_⊝_, _⊗_, #0, #1, by-ring}
+use Rattle.algebra.specs.Polynomial.{coeff, value, mulᴾ, chi, Monic, agree, chi-monic, chi-root, value-mul, value-chi}
+use Rattle.algebra.specs.Series.{series, cauchy, constant, cauchy-zero, cauchy-constant, mul-at, one-at, coeff-mulˢ}
+use Rattle.algebra.specs.Divide.{HasDegree, degree, Divides, mul-monic, rest-monic, cancelˢ, value-ext, value-at, roots-divide, unit-const}
 use Rattle.algebra.specs.Gcd.{IsGcd}
 use Rattle.algebra.specs.Sets.{_∈_, Distinct, without, without-mem, without-distinct}
-use Rattle.algebra.specs.Product.{prod, zero-prod, cross}
+use Rattle.algebra.specs.Product.{prod, prod-zero, zero-prod, cross}
 
 module _ {F : Type 0} (𝓕 : Field F) where
   infixl 68 _+_ _+ˢ_
   infixl 70 _*_ _*ˢ_
   open Field 𝓕 using (ring as 𝓡, dec, one-ne-zero)
-  open CRing 𝓡 using (add as _+_, mul as _*_, zero as 𝟘, one as 𝟙, neg, zero-add, one-mul)
+  open CRing 𝓡 using (add as _+_, mul as _*_, zero as 𝟘, one as 𝟙, neg, zero-add, one-mul, mul-comm)
 
   abbrev 𝓢 : CRing (ℕ → F)
   𝓢 = series 𝓡
 
   open CRing 𝓢 using (add as _+ˢ_, mul as _*ˢ_, zero as 𝟘ˢ, one as 𝟙ˢ, neg as negˢ)
 
-  -- a product has no term past the sum of the degrees
-  pub mul-past : (n m N : ℕ) (f g : ℕ → F) → ((k : ℕ) → n < k → f k ≡ 𝟘) → ((k : ℕ) → m < k → g k ≡ 𝟘) → n +ℕ m < N → cauchy 𝓡 f g N ≡ 𝟘
-  mul-past n m zero f g hf hg l = absurd (omega arith)
-  mul-past zero m (suc N) f g hf hg l = ap₂ (λ u v. f 0 * u + v) (hg (suc N) (omega arith)) (ap (λ s. cauchy 𝓡 s g N) (fun-ext (λ k. hf (suc k) (omega arith))) ∙ cauchy-zero 𝓡 g N)
-      ∙ by-ring 𝓡 1 (λ x. (x ⊗ #0 ⊕ #0, #0)) refl (f 0)
-  mul-past (suc n) m (suc N) f g hf hg l = ap₂ (λ u v. f 0 * u + v) (hg (suc N) (omega arith)) (mul-past n m N (shift 𝓡 f) g (λ k h. hf (suc k) (omega arith)) hg (omega arith))
-      ∙ by-ring 𝓡 1 (λ x. (x ⊗ #0 ⊕ #0, #0)) refl (f 0)
+  abbrev pub χ : List F → ℕ → F
+  χ s = coeff 𝓡 (chi 𝓡 s)
 
-  pub mul-monic : (n m : ℕ) (p q : List F) → Monic 𝓡 n p → Monic 𝓡 m q → Monic 𝓡 (n +ℕ m) (mulᴾ 𝓡 p q)
-  mul-monic n m p q hp hq = record {
-    top = at (n +ℕ m) ∙ mul-top 𝓕 n m (n +ℕ m) (coeff 𝓡 p) (coeff 𝓡 q) (hp .above) (hq .above) refl ∙ ap₂ _*_ (hp .top) (hq .top) ∙ one-mul 𝟙;
-    above = λ k l. at k ∙ mul-past n m k (coeff 𝓡 p) (coeff 𝓡 q) (hp .above) (hq .above) l;
-  }
-    where
-      at : (k : ℕ) → coeff 𝓡 (mulᴾ 𝓡 p q) k ≡ cauchy 𝓡 (coeff 𝓡 p) (coeff 𝓡 q) k
-      at k = ap (λ s. s k) (coeff-mulˢ 𝓡 p q) ∙ mul-at 𝓡 (coeff 𝓡 p) (coeff 𝓡 q) k
+  -- The two sets behind a fraction: P / Q is chi T / chi O, and is g * P′ / g * Q′ with g a greatest common divisor.
+  module _ (T O P Q g P′ Q′ : List F) (distinct : Distinct T) (disjoint : (x : F) → x ∈ T → x ∈ O → ⊥)
+      (cross : coeff 𝓡 P *ˢ coeff 𝓡 (chi 𝓡 O) ≡ coeff 𝓡 Q *ˢ coeff 𝓡 (chi 𝓡 T)) (isP : coeff 𝓡 P ≡ coeff 𝓡 g *ˢ coeff 𝓡 P′) (isQ : coeff 𝓡 Q ≡ coeff 𝓡 g *ˢ coeff 𝓡 Q′)
+      (m : ℕ) (g-some : ¬ (coeff 𝓡 g m ≡ 𝟘)) (greatest : (d : List F) → Divides 𝓕 d P → Divides 𝓕 d Q → Divides 𝓕 d g) where
+    cross′ : coeff 𝓡 P′ *ˢ χ O ≡ coeff 𝓡 Q′ *ˢ χ T
+    cross′ = cancelˢ 𝓕 m (coeff 𝓡 g) _ _ g-some (sym (𝓢 .mul-assoc _ _ _) ∙ ap (λ y. y *ˢ χ O) (sym isP) ∙ cross ∙ ap (λ y. y *ˢ χ T) isQ ∙ 𝓢 .mul-assoc _ _ _)
+
+    P′-roots : (x : F) → x ∈ T → value 𝓡 P′ x ≡ 𝟘
+    P′-roots x i = mul-cancel 𝓕 (value 𝓡 (chi 𝓡 O) x) (value 𝓡 P′ x) (λ z. disjoint x i (chi-root 𝓕 O x .0 z))
+        (mul-comm _ _ ∙ sym (value-mul 𝓡 P′ (chi 𝓡 O) x)
+        ∙ value-at 𝓕 (mulᴾ 𝓡 P′ (chi 𝓡 O)) (mulᴾ 𝓡 Q′ (chi 𝓡 T)) (coeff-mulˢ 𝓡 P′ (chi 𝓡 O) ∙ cross′ ∙ sym (coeff-mulˢ 𝓡 Q′ (chi 𝓡 T))) x
+        ∙ value-mul 𝓡 Q′ (chi 𝓡 T) x ∙ ap (λ y. value 𝓡 Q′ x * y) (chi-root 𝓕 T x .1 i) ∙ mul-zero 𝓡 _)
+
+    -- for each k with P′ = chi T * k
+    module _ (k : List F) (isP′ : coeff 𝓡 P′ ≡ χ T *ˢ coeff 𝓡 k) where
+      isQ′ : coeff 𝓡 Q′ ≡ χ O *ˢ coeff 𝓡 k
+      isQ′ = cancelˢ 𝓕 (length T) (χ T) _ _ (λ e. one-ne-zero (sym (chi-monic 𝓡 T .top) ∙ e))
+          (𝓢 .mul-comm _ _ ∙ sym cross′ ∙ ap (λ y. y *ˢ χ O) isP′ ∙ by-ring 𝓢 3 (λ t k o. (t ⊗ k ⊗ o, t ⊗ (o ⊗ k))) refl (χ T) (coeff 𝓡 k) (χ O))
+
+      gk : Divides 𝓕 (mulᴾ 𝓡 g k) g
+      gk = greatest (mulᴾ 𝓡 g k) (chi 𝓡 T, part P P′ T isP isP′) (chi 𝓡 O, part Q Q′ O isQ isQ′)
+        where
+          part : (A A′ S : List F) → coeff 𝓡 A ≡ coeff 𝓡 g *ˢ coeff 𝓡 A′ → coeff 𝓡 A′ ≡ coeff 𝓡 (chi 𝓡 S) *ˢ coeff 𝓡 k → coeff 𝓡 A ≡ coeff 𝓡 (mulᴾ 𝓡 g k) *ˢ coeff 𝓡 (chi 𝓡 S)
+          part A A′ S e e′ = e ∙ ap (λ y. coeff 𝓡 g *ˢ y) e′ ∙ by-ring 𝓢 3 (λ g s k. (g ⊗ (s ⊗ k), g ⊗ k ⊗ s)) refl (coeff 𝓡 g) (coeff 𝓡 (chi 𝓡 S)) (coeff 𝓡 k)
+              ∙ ap (λ y. y *ˢ coeff 𝓡 (chi 𝓡 S)) (sym (coeff-mulˢ 𝓡 g k))
+
+      k-unit : coeff 𝓡 k *ˢ coeff 𝓡 (gk .0) ≡ 𝟙ˢ
+      k-unit = cancelˢ 𝓕 m (coeff 𝓡 g) _ _ g-some (sym (gk .1 ∙ ap (λ y. y *ˢ coeff 𝓡 (gk .0)) (coeff-mulˢ 𝓡 g k) ∙ 𝓢 .mul-assoc _ _ _) ∙ by-ring 𝓢 1 (λ g. (g, g ⊗ #1)) refl (coeff 𝓡 g))
+
+      k-constant : coeff 𝓡 k ≡ constant 𝓡 (coeff 𝓡 k 0)
+      k-constant = fun-ext go
+        where
+          go : (n : ℕ) → coeff 𝓡 k n ≡ constant 𝓡 (coeff 𝓡 k 0) n
+          go zero = refl
+          go (suc n) = unit-const 𝓕 k (gk .0) k-unit (suc n) (omega arith)
+
+      k-some : ¬ (coeff 𝓡 k 0 ≡ 𝟘)
+      k-some e = one-ne-zero (sym (sym (mul-at 𝓡 (coeff 𝓡 k) (coeff 𝓡 (gk .0)) 0) ∙ ap (λ s. s 0) k-unit ∙ one-at 𝓡 0) ∙ ap (λ y. y * coeff 𝓡 (gk .0) 0) e ∙ zero-mul 𝓡 _)
+
+      -- with P′ monic, k is 1
+      k-one : (d : ℕ) → Monic 𝓡 d P′ → coeff 𝓡 k ≡ 𝟙ˢ
+      k-one d h = k-constant ∙ ap (constant 𝓡) (go (decLt (length T) d)) ∙ sym (fun-ext (one-at 𝓡))
+        where
+          coP : (n : ℕ) → coeff 𝓡 P′ n ≡ coeff 𝓡 k 0 * χ T n
+          coP n = ap (λ s. s n) (isP′ ∙ 𝓢 .mul-comm _ _ ∙ ap (λ y. y *ˢ χ T) k-constant) ∙ mul-at 𝓡 (constant 𝓡 (coeff 𝓡 k 0)) (χ T) n ∙ cauchy-constant 𝓡 (coeff 𝓡 k 0) (χ T) n
+
+          top : coeff 𝓡 P′ (length T) ≡ coeff 𝓡 k 0
+          top = coP (length T) ∙ ap (λ y. coeff 𝓡 k 0 * y) (chi-monic 𝓡 T .top) ∙ mul-one 𝓡 _
+
+          same : (d ≡ length T) ⊎ (d < length T) → coeff 𝓡 k 0 ≡ 𝟙
+          same (inl e) = sym top ∙ rw e at (h .top)
+          same (inr l) = absurd (k-some (sym top ∙ h .above (length T) l))
+
+          go : Dec (length T < d) → coeff 𝓡 k 0 ≡ 𝟙
+          go (yes l) = absurd (one-ne-zero (sym (h .top) ∙ coP d ∙ ap (λ y. coeff 𝓡 k 0 * y) (chi-monic 𝓡 T .above d l) ∙ mul-zero 𝓡 _))
+          go (no n) = same (eq-or-lt-of-le (omega arith))
+
+    pub read-off : (d : ℕ) → Monic 𝓡 d P′ → (coeff 𝓡 P′ ≡ χ T) × (coeff 𝓡 Q′ ≡ χ O)
+    read-off d h = go (roots-divide 𝓕 T distinct P′ P′-roots)
+      where
+        go : Divides 𝓕 (chi 𝓡 T) P′ → (coeff 𝓡 P′ ≡ χ T) × (coeff 𝓡 Q′ ≡ χ O)
+        go t = (t .1 ∙ ap (λ y. χ T *ˢ y) one ∙ mul-one 𝓢 _, isQ′ (t .0) (t .1) ∙ ap (λ y. χ O *ˢ y) one ∙ mul-one 𝓢 _)
+          where
+            one : coeff 𝓡 (t .0) ≡ 𝟙ˢ
+            one = k-one (t .0) (t .1) d h
 
   pub decode : (T O P Q g P′ Q′ : List F) → Distinct T → ((x : F) → x ∈ T → x ∈ O → ⊥)
       → (n m d : ℕ) → Monic 𝓡 n P → Monic 𝓡 m Q → Monic 𝓡 d P′ → n +ℕ length O ≡ m +ℕ length T
       → (es : List F) → Distinct es → n +ℕ length O ≤ length es
       → ((e : F) → e ∈ es → value 𝓡 P e * value 𝓡 (chi 𝓡 O) e ≡ value 𝓡 Q e * value 𝓡 (chi 𝓡 T) e)
       → IsGcd 𝓕 g P Q → coeff 𝓡 P ≡ coeff 𝓡 g *ˢ coeff 𝓡 P′ → coeff 𝓡 Q ≡ coeff 𝓡 g *ˢ coeff 𝓡 Q′
-      → (coeff 𝓡 P′ ≡ χ 𝓕 T) × (coeff 𝓡 Q′ ≡ χ 𝓕 O)
+      → (coeff 𝓡 P′ ≡ χ T) × (coeff 𝓡 Q′ ≡ χ O)
   decode T O P Q g P′ Q′ dT dis n m d mP mQ mP′ eN es dE le pts isg eP eQ = go (degree 𝓕 g)
     where
       PO : List F
@@ -61,34 +125,16 @@ module _ {F : Type 0} (𝓕 : Field F) where
       QT = mulᴾ 𝓡 Q (chi 𝓡 T)
 
       same : (k : ℕ) → coeff 𝓡 PO k ≡ coeff 𝓡 QT k
-      same = agree 𝓕 (n +ℕ length O) PO QT (mul-monic n (length O) P (chi 𝓡 O) mP (chi-monic 𝓡 O))
-          (subst (λ N. Monic 𝓡 N QT) (sym eN) (mul-monic m (length T) Q (chi 𝓡 T) mQ (chi-monic 𝓡 T))) es dE le
+      same = agree 𝓕 (n +ℕ length O) PO QT (mul-monic 𝓕 n (length O) P (chi 𝓡 O) mP (chi-monic 𝓡 O))
+          (subst (λ N. Monic 𝓡 N QT) (sym eN) (mul-monic 𝓕 m (length T) Q (chi 𝓡 T) mQ (chi-monic 𝓡 T))) es dE le
           (λ e i. value-mul 𝓡 P (chi 𝓡 O) e ∙ pts e i ∙ sym (value-mul 𝓡 Q (chi 𝓡 T) e))
 
-      crossed : coeff 𝓡 P *ˢ χ 𝓕 O ≡ coeff 𝓡 Q *ˢ χ 𝓕 T
+      crossed : coeff 𝓡 P *ˢ χ O ≡ coeff 𝓡 Q *ˢ χ T
       crossed = sym (coeff-mulˢ 𝓡 P (chi 𝓡 O)) ∙ fun-ext same ∙ coeff-mulˢ 𝓡 Q (chi 𝓡 T)
 
-      go : ((k : ℕ) → coeff 𝓡 g k ≡ 𝟘) ⊎ ((k : ℕ) × HasDegree 𝓕 g k) → (coeff 𝓡 P′ ≡ χ 𝓕 T) × (coeff 𝓡 Q′ ≡ χ 𝓕 O)
+      go : ((k : ℕ) → coeff 𝓡 g k ≡ 𝟘) ⊎ ((k : ℕ) × HasDegree 𝓕 g k) → (coeff 𝓡 P′ ≡ χ T) × (coeff 𝓡 Q′ ≡ χ O)
       go (inl z) = absurd (one-ne-zero (sym (mP .top) ∙ ap (λ s. s n) eP ∙ mul-at 𝓡 (coeff 𝓡 g) (coeff 𝓡 P′) n ∙ ap (λ s. cauchy 𝓡 s (coeff 𝓡 P′) n) (fun-ext z) ∙ cauchy-zero 𝓡 (coeff 𝓡 P′) n))
-      go (inr t) = read-off 𝓕 T O P Q g P′ Q′ dT dis crossed eP eQ (t .0) (t .1 .some) (isg .greatest) d mP′
-
-  -- what is left of a monic polynomial by a monic divisor is monic
-  pub rest-monic : (n k : ℕ) (P g P′ : List F) → Monic 𝓡 n P → Monic 𝓡 k g → coeff 𝓡 P ≡ coeff 𝓡 g *ˢ coeff 𝓡 P′ → (d : ℕ) × Monic 𝓡 d P′
-  rest-monic n k P g P′ mP mg e = go (degree 𝓕 P′)
-    where
-      at : (j : ℕ) → coeff 𝓡 P j ≡ cauchy 𝓡 (coeff 𝓡 g) (coeff 𝓡 P′) j
-      at j = ap (λ s. s j) e ∙ mul-at 𝓡 (coeff 𝓡 g) (coeff 𝓡 P′) j
-
-      go : ((j : ℕ) → coeff 𝓡 P′ j ≡ 𝟘) ⊎ ((d : ℕ) × HasDegree 𝓕 P′ d) → (d : ℕ) × Monic 𝓡 d P′
-      go (inl z) = absurd (one-ne-zero (sym (mP .top) ∙ at n ∙ ap (λ s. cauchy 𝓡 (coeff 𝓡 g) s n) (fun-ext z) ∙ cauchy-comm 𝓡 (coeff 𝓡 g) (λ _. 𝟘) n ∙ cauchy-zero 𝓡 (coeff 𝓡 g) n))
-      go (inr t) = (t .0, record { top = sym top ∙ end (decLt (k +ℕ t .0) n); above = t .1 .above })
-        where
-          top : coeff 𝓡 P (k +ℕ t .0) ≡ coeff 𝓡 P′ (t .0)
-          top = at (k +ℕ t .0) ∙ mul-top 𝓕 k (t .0) (k +ℕ t .0) (coeff 𝓡 g) (coeff 𝓡 P′) (mg .above) (t .1 .above) refl ∙ ap (λ y. y * coeff 𝓡 P′ (t .0)) (mg .top) ∙ one-mul _
-
-          end : Dec (k +ℕ t .0 < n) → coeff 𝓡 P (k +ℕ t .0) ≡ 𝟙
-          end (yes l) = absurd (one-ne-zero (sym (mP .top) ∙ at n ∙ mul-past k (t .0) n (coeff 𝓡 g) (coeff 𝓡 P′) (mg .above) (t .1 .above) l))
-          end (no l) = ⊎-elim (λ e. rw e at (mP .top)) (λ l′. absurd (t .1 .some (sym top ∙ mP .above (k +ℕ t .0) l′))) (eq-or-lt-of-le {n = n} {m = k +ℕ t .0} (omega arith))
+      go (inr t) = read-off T O P Q g P′ Q′ dT dis crossed eP eQ (t .0) (t .1 .some) (isg .greatest) d mP′
 
   -- Two sets A and B, their values at the points es, and a monic fraction P / Q that agrees with them: reduced, it is their two differences.
   pub reconcile : (A B P Q g P′ Q′ : List F) → Distinct A → Distinct B → (n m k : ℕ) → Monic 𝓡 n P → Monic 𝓡 m Q → Monic 𝓡 k g
@@ -97,13 +143,13 @@ module _ {F : Type 0} (𝓕 : Field F) where
       → ((e : F) → e ∈ es → ¬ (e ∈ A))
       → ((e : F) → e ∈ es → value 𝓡 P e * prod 𝓡 B e ≡ value 𝓡 Q e * prod 𝓡 A e)
       → IsGcd 𝓕 g P Q → coeff 𝓡 P ≡ coeff 𝓡 g *ˢ coeff 𝓡 P′ → coeff 𝓡 Q ≡ coeff 𝓡 g *ˢ coeff 𝓡 Q′
-      → (coeff 𝓡 P′ ≡ χ 𝓕 (without dec A B)) × (coeff 𝓡 Q′ ≡ χ 𝓕 (without dec B A))
+      → (coeff 𝓡 P′ ≡ χ (without dec A B)) × (coeff 𝓡 Q′ ≡ χ (without dec B A))
   reconcile A B P Q g P′ Q′ dA dB n m k mP mQ mg eN es dE le out pts isg eP eQ =
       decode (without dec A B) (without dec B A) P Q g P′ Q′ (without-distinct dec A B dA) (λ x i j. without-mem dec A B x i .1 (without-mem dec B A x j .0))
       n m (d .0) mP mQ (d .1) eN es dE le at isg eP eQ
     where
       d : (d : ℕ) × Monic 𝓡 d P′
-      d = rest-monic n k P g P′ mP mg eP
+      d = rest-monic 𝓕 n k P g P′ mP mg eP
 
       at : (e : F) → e ∈ es → value 𝓡 P e * value 𝓡 (chi 𝓡 (without dec B A)) e ≡ value 𝓡 Q e * value 𝓡 (chi 𝓡 (without dec A B)) e
       at e i = ap (λ y. value 𝓡 P e * y) (value-chi 𝓡 (without dec B A) e)
@@ -115,7 +161,7 @@ module _ {F : Type 0} (𝓕 : Field F) where
               (by-ring 𝓡 6 (λ p q a b t o. (a ⊗ (p ⊗ o ⊝ q ⊗ t), p ⊗ (a ⊗ o) ⊝ t ⊗ (q ⊗ a))) refl p q a b t o ∙ ap₂ (λ u v. p * u + neg (t * v)) x (sym y) ∙ by-ring 𝓡 4 (λ p b t o. (p ⊗ (b ⊗ t) ⊝ t ⊗ (p ⊗ b), #0)) refl p b t o))
 
   -- the roots of what was found are the difference
-  pub roots-are : (P′ T : List F) → coeff 𝓡 P′ ≡ χ 𝓕 T → (x : F) → (value 𝓡 P′ x ≡ 𝟘) ↔ x ∈ T
+  pub roots-are : (P′ T : List F) → coeff 𝓡 P′ ≡ χ T → (x : F) → (value 𝓡 P′ x ≡ 𝟘) ↔ x ∈ T
   roots-are P′ T e x = (λ z. chi-root 𝓕 T x .0 (sym (same x) ∙ z), λ i. same x ∙ chi-root 𝓕 T x .1 i)
     where
       same : (x : F) → value 𝓡 P′ x ≡ value 𝓡 (chi 𝓡 T) x
@@ -124,3 +170,42 @@ module _ {F : Type 0} (𝓕 : Field F) where
   -- equal coefficients and equal lengths: equal lists
   pub list-ext : (p q : List F) → length p ≡ length q → ((k : ℕ) → coeff 𝓡 p k ≡ coeff 𝓡 q k) → p ≡ q
   list-ext p q e h = ext-getD 𝟘 p q e (λ i l. h i)
+
+  -- Two pairs (T₁, O₁) and (T₂, O₂) with T new to B and O within B, of one difference of counts, whose values T·B and v·O are
+  -- equal at each of the points es, where neither B nor v is 0.
+  module _ (B T₁ O₁ T₂ O₂ : List F) (new₁ : (x : F) → x ∈ T₁ → ¬ (x ∈ B)) (held₁ : (x : F) → x ∈ O₁ → x ∈ B)
+      (counts : length T₁ +ℕ length O₂ ≡ length T₂ +ℕ length O₁)
+      (es : List F) (distinct : Distinct es) (enough : length T₁ +ℕ length O₂ ≤ length es)
+      (v : F → F) (some : (e : F) → e ∈ es → ¬ (v e ≡ 𝟘)) (out : (e : F) → e ∈ es → ¬ (e ∈ B))
+      (at₁ : (e : F) → e ∈ es → prod 𝓡 T₁ e * prod 𝓡 B e ≡ v e * prod 𝓡 O₁ e)
+      (at₂ : (e : F) → e ∈ es → prod 𝓡 T₂ e * prod 𝓡 B e ≡ v e * prod 𝓡 O₂ e) where
+    crossed : (e : F) → e ∈ es → prod 𝓡 T₁ e * prod 𝓡 O₂ e ≡ prod 𝓡 T₂ e * prod 𝓡 O₁ e
+    crossed e i = cancel-left 𝓕 (prod 𝓡 B e * v e) _ _ (λ z. ⊎-elim (λ z′. out e i (zero-prod 𝓕 B e z′)) (some e i) (mul-eq-zero 𝓕 (prod 𝓡 B e) (v e) z))
+        (by-ring 𝓡 4 (λ b v t o. (b ⊗ v ⊗ (t ⊗ o), (t ⊗ b) ⊗ (v ⊗ o))) refl (prod 𝓡 B e) (v e) (prod 𝓡 T₁ e) (prod 𝓡 O₂ e)
+        ∙ ap₂ _*_ (at₁ e i) (sym (at₂ e i))
+        ∙ by-ring 𝓡 4 (λ b v t o. ((v ⊗ o) ⊗ (t ⊗ b), b ⊗ v ⊗ (t ⊗ o))) refl (prod 𝓡 B e) (v e) (prod 𝓡 T₂ e) (prod 𝓡 O₁ e))
+
+    abbrev TO : List F
+    TO = mulᴾ 𝓡 (chi 𝓡 T₁) (chi 𝓡 O₂)
+
+    abbrev OT : List F
+    OT = mulᴾ 𝓡 (chi 𝓡 T₂) (chi 𝓡 O₁)
+
+    value-pair : (S S′ : List F) (x : F) → value 𝓡 (mulᴾ 𝓡 (chi 𝓡 S) (chi 𝓡 S′)) x ≡ prod 𝓡 S x * prod 𝓡 S′ x
+    value-pair S S′ x = value-mul 𝓡 (chi 𝓡 S) (chi 𝓡 S′) x ∙ ap₂ _*_ (value-chi 𝓡 S x) (value-chi 𝓡 S′ x)
+
+    same : (k : ℕ) → coeff 𝓡 TO k ≡ coeff 𝓡 OT k
+    same = agree 𝓕 (length T₁ +ℕ length O₂) TO OT (mul-monic 𝓕 (length T₁) (length O₂) (chi 𝓡 T₁) (chi 𝓡 O₂) (chi-monic 𝓡 T₁) (chi-monic 𝓡 O₂))
+        (subst (λ N. Monic 𝓡 N OT) (sym counts) (mul-monic 𝓕 (length T₂) (length O₁) (chi 𝓡 T₂) (chi 𝓡 O₁) (chi-monic 𝓡 T₂) (chi-monic 𝓡 O₁))) es distinct enough
+        (λ e i. value-pair T₁ O₂ e ∙ crossed e i ∙ sym (value-pair T₂ O₁ e))
+
+    everywhere : (x : F) → prod 𝓡 T₁ x * prod 𝓡 O₂ x ≡ prod 𝓡 T₂ x * prod 𝓡 O₁ x
+    everywhere x = sym (value-pair T₁ O₂ x) ∙ value-ext 𝓕 TO OT same x ∙ value-pair T₂ O₁ x
+
+    pub one-theirs : (x : F) → x ∈ T₁ → x ∈ T₂
+    one-theirs x i = ⊎-elim (zero-prod 𝓕 T₂ x) (λ z. absurd (new₁ x i (held₁ x (zero-prod 𝓕 O₁ x z))))
+        (mul-eq-zero 𝓕 (prod 𝓡 T₂ x) (prod 𝓡 O₁ x) (sym (everywhere x) ∙ ap (λ y. y * prod 𝓡 O₂ x) (prod-zero 𝓕 T₁ x i) ∙ zero-mul 𝓡 _))
+
+    pub one-ours : (x : F) → x ∈ O₁ → x ∈ O₂
+    one-ours x i = ⊎-elim (λ z. absurd (new₁ x (zero-prod 𝓕 T₁ x z) (held₁ x i))) (zero-prod 𝓕 O₂ x)
+        (mul-eq-zero 𝓕 (prod 𝓡 T₁ x) (prod 𝓡 O₂ x) (everywhere x ∙ ap (λ y. prod 𝓡 T₂ x * y) (prod-zero 𝓕 O₁ x i) ∙ mul-zero 𝓡 _))

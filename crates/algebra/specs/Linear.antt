@@ -1,5 +1,15 @@
--- Linear systems by elimination. A vector is a function of an index, a matrix of two. The state is a square matrix N, at first the unit one:
--- each row of N solves the equations so far, and each y that solves them is the sum of y j times row j.
+-- Linear systems over a field by elimination, with nothing ever dropped. A vector is a function of an index, a matrix of two.
+--
+--   sum n f, dot n a b       f 0 + .. + f (n − 1), and Σ a i · b i
+--   Solves w t E y           y gives 0 with each of the first t rows of E, of width w
+--   Spans w t E N            the state: each row of the w × w matrix N solves them (sound), and each y that does is the sum of
+--                            y j times row j (complete)
+--   start, skip, step        the unit matrix spans all; an equation that every row solves; one that some row does not
+--   Meets c m E x            x meets m equations in c unknowns, the right side of each in column c
+--   found, none, meets, meets-none     how an answer is read off the state at the end
+--   solve                    an x that meets them all, or no x does
+--
+-- Assumes nothing.
 use mathlib.Core.Path.{_≡_, refl, sym, _∙_, ap, ap₂}
 use mathlib.Core.Logic.{_⊎_, inl, inr, ⊎-elim}
 use Prim.Native.Nat.{ℕ, zero, suc, _<_}

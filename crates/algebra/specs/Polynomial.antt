@@ -14,18 +14,18 @@
 --   chi-monic, value-chi, chi-root     chi s is monic of degree the length of s, has the value prod s x, and its roots are s
 --
 -- Assumes nothing.
-use mathlib.Core.Path.{_≡_, refl, sym, _∙_, ap, ap₂, fun-ext, subst}
-use mathlib.Core.Logic.{_⊎_, inl, inr, _↔_, ⊎-elim}
-use mathlib.Core.List.{List, [], _∷_, List·Memᴰ, List·Memᴰ·head, List·Memᴰ·tail, Memᴰ·cast}
-use Prim.Native.Nat.{ℕ, zero, suc, _≤_, _<_}
+use mathlib.Core.Path.{_≡_, refl, sym, _∙_, ap, ap₂}
+use mathlib.Core.Logic.{_⊎_, _↔_, ⊎-elim}
+use mathlib.Core.List.{List, [], _∷_, List·Memᴰ·head, List·Memᴰ·tail, Memᴰ·cast}
+use Prim.Native.Nat.{ℕ, zero, suc, _≤_}
 use native.Mathlib.Omega.{arith}
 use native.Mathlib.Nat.{eq-or-lt-of-le}
 use lib.ListN.{length, getD}
 use Rattle.algebra.specs.Ring.{CRing, add-zero, add-neg, zero-mul, mul-zero, sub-eq-zero, neg-zero}
-use Rattle.algebra.specs.Field.{Field, mul-cancel, mul-eq-zero}
+use Rattle.algebra.specs.Field.{Field, mul-cancel}
 use Rattle.algebra.specs.Sets.{_∈_, Distinct}
 use Rattle.algebra.specs.Product.{prod, prod-zero, zero-prod}
-use Rattle.algebra.specs.Solver.{Ex, _⊕_, _⊝_, _⊗_, ⊖, #0, #1, by-ring}
+use Rattle.algebra.specs.Solver.{_⊕_, _⊝_, _⊗_, ⊖, #0, #1, by-ring}
 
 module _ {R : Type 0} (𝓡 : CRing R) where
   infixl 68 _+_

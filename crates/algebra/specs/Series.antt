@@ -10,11 +10,9 @@
 -- Assumes nothing.
 use mathlib.Core.Path.{_≡_, refl, sym, _∙_, ap, ap₂, fun-ext}
 use mathlib.Core.List.{List, [], _∷_}
-use Prim.Native.Nat.{ℕ, zero, suc, _≤_, _<_, _+_ as _+ℕ_}
-use native.Mathlib.Omega.{arith}
-use lib.ListN.{length, getD}
-use Rattle.algebra.specs.Ring.{CRing, add-zero, add-neg, zero-mul, mul-zero, neg-zero, add-left-comm}
-use Rattle.algebra.specs.Solver.{Ex, _⊕_, _⊝_, _⊗_, ⊖, #0, #1, by-ring}
+use Prim.Native.Nat.{ℕ, zero, suc}
+use Rattle.algebra.specs.Ring.{CRing, add-zero, zero-mul, neg-zero, add-left-comm}
+use Rattle.algebra.specs.Solver.{_⊕_, _⊗_, by-ring}
 use Rattle.algebra.specs.Polynomial.{coeff, addᴾ, mulᴾ, scaleᴾ, negᴾ, coeff-add, coeff-scale, coeff-neg}
 
 module _ {R : Type 0} (𝓡 : CRing R) where

@@ -1,12 +1,12 @@
 -- Document 01, "Values to hold against it", cases 1 to 6: the checker computes them from the definitions. And "no key is a point".
 -- Assumes nothing.
 use mathlib.Core.Path.{_≡_, refl}
-use mathlib.Core.List.{List, [], _∷_}
+use mathlib.Core.List.{[], _∷_}
 use Prim.Native.Nat.{ℕ, _≤_}
 use native.Mathlib.Omega.{arith}
 use lib.ListN.{take}
 use Rattle.algebra.specs.Arithmetic.{productOf}
-use Rattle.rules.specs.Numbers.{point, keyLimit, mostSamples, LegalKey}
+use Rattle.rules.specs.Numbers.{point, mostSamples, LegalKey}
 use Rattle.rules.specs.Slots.{tabulate}
 use Rattle.rules.specs.Sketches.{value, sketchOf}
 use Rattle.rules.specs.Messages.{fields, message}
