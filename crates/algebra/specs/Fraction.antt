@@ -3,12 +3,12 @@
 --   χ s            the coefficients of chi s
 --   read-off       from P·χ_O = Q·χ_T, T and O disjoint, T without repeats, P = g·P′ and Q = g·Q′ with g a greatest common
 --                  divisor and P′ monic: P′ is χ_T and Q′ is χ_O
---   decode         the same from equations at enough points: monic P and Q of the right degrees whose fraction agrees there
---                  with χ_T / χ_O
---   reconcile      the same for two sets A and B and their values: reduced, the fraction is A without B over B without A
+--   Samples m e v B    m different points e i outside B, and values v i that are not 0
+--   Fits m e v B T O   T is new to B, O is held in B, and T·B is v·O at each point: a difference, but for counts
+--   decode         any monic P and Q of the right degrees with P·B = v·Q at the points, reduced, are χ_T and χ_O
+--   one-theirs, one-ours   two pairs that fit, of one difference of counts, are one pair: a difference is unique
 --   roots-are      the roots of what was found are the set
---   one-theirs, one-ours   two pairs of sets, each new to B and within B, whose fractions agree at enough points
---                  are one pair: a difference is unique
+--   sets-fit       two sets A and B: A without B and B without A fit
 --
 -- Assumes nothing.
 use mathlib.Core.Path.{_≡_, refl, sym, _∙_, ap, ap₂, fun-ext, subst}
@@ -27,6 +27,7 @@ use Rattle.algebra.specs.Polynomial.{coeff, value, mulᴾ, chi, Monic, a
 use Rattle.algebra.specs.Series.{series, cauchy, constant, cauchy-zero, cauchy-constant, mul-at, one-at, coeff-mulˢ}
 use Rattle.algebra.specs.Divide.{HasDegree, degree, Divides, mul-monic, rest-monic, cancelˢ, value-ext, value-at, roots-divide, unit-const}
 use Rattle.algebra.specs.Gcd.{IsGcd}
+use Rattle.algebra.specs.Tabulate.{tabulate, tabulate-length, tabulate-mem, tabulate-distinct}
 use Rattle.algebra.specs.Sets.{_∈_, Distinct, without, without-mem, without-distinct}
 use Rattle.algebra.specs.Product.{prod, prod-zero, zero-prod, cross}
 
@@ -110,102 +111,99 @@ module _ {F : Type 0} (𝓕 : Field F) where
             one : coeff 𝓡 (t .0) ≡ 𝟙ˢ
             one = k-one (t .0) (t .1) d h
 
-  pub decode : (T O P Q g P′ Q′ : List F) → Distinct T → ((x : F) → x ∈ T → x ∈ O → ⊥)
-      → (n m d : ℕ) → Monic 𝓡 n P → Monic 𝓡 m Q → Monic 𝓡 d P′ → n +ℕ length O ≡ m +ℕ length T
-      → (es : List F) → Distinct es → n +ℕ length O ≤ length es
-      → ((e : F) → e ∈ es → value 𝓡 P e * value 𝓡 (chi 𝓡 O) e ≡ value 𝓡 Q e * value 𝓡 (chi 𝓡 T) e)
-      → IsGcd 𝓕 g P Q → coeff 𝓡 P ≡ coeff 𝓡 g *ˢ coeff 𝓡 P′ → coeff 𝓡 Q ≡ coeff 𝓡 g *ˢ coeff 𝓡 Q′
-      → (coeff 𝓡 P′ ≡ χ T) × (coeff 𝓡 Q′ ≡ χ O)
-  decode T O P Q g P′ Q′ dT dis n m d mP mQ mP′ eN es dE le pts isg eP eQ = go (degree 𝓕 g)
-    where
-      PO : List F
-      PO = mulᴾ 𝓡 P (chi 𝓡 O)
+  -- The values of sets at m points: the points e i are different, none is in B, and no value v i is 0.
+  pub record Samples (m : ℕ) (e v : ℕ → F) (B : List F) : Type 0 where
+    pub apart : (i j : ℕ) → i < m → j < m → e i ≡ e j → i ≡ j
+    pub outside : (i : ℕ) → i < m → ¬ (e i ∈ B)
+    pub some : (i : ℕ) → i < m → ¬ (v i ≡ 𝟘)
 
-      QT : List F
-      QT = mulᴾ 𝓡 Q (chi 𝓡 T)
+  -- T is new to B, O is held in B, and at each point T·B is v·O.
+  pub record Fits (m : ℕ) (e v : ℕ → F) (B T O : List F) : Type 0 where
+    pub new : (x : F) → x ∈ T → ¬ (x ∈ B)
+    pub held : (x : F) → x ∈ O → x ∈ B
+    pub agrees : (i : ℕ) → i < m → prod 𝓡 T (e i) * prod 𝓡 B (e i) ≡ v i * prod 𝓡 O (e i)
 
-      same : (k : ℕ) → coeff 𝓡 PO k ≡ coeff 𝓡 QT k
-      same = agree 𝓕 (n +ℕ length O) PO QT (mul-monic 𝓕 n (length O) P (chi 𝓡 O) mP (chi-monic 𝓡 O))
-          (subst (λ N. Monic 𝓡 N QT) (sym eN) (mul-monic 𝓕 m (length T) Q (chi 𝓡 T) mQ (chi-monic 𝓡 T))) es dE le
-          (λ e i. value-mul 𝓡 P (chi 𝓡 O) e ∙ pts e i ∙ sym (value-mul 𝓡 Q (chi 𝓡 T) e))
+  -- two fractions that are both v / b, with neither v nor b 0, multiplied crosswise
+  cross-ratio : (b v t o p q : F) → ¬ (b ≡ 𝟘) → ¬ (v ≡ 𝟘) → t * b ≡ v * o → p * b ≡ v * q → t * q ≡ p * o
+  cross-ratio b v t o p q nb nv e f = cancel-left 𝓕 (b * v) _ _ (λ z. ⊎-elim nb nv (mul-eq-zero 𝓕 b v z))
+      (by-ring 𝓡 4 (λ b v t q. (b ⊗ v ⊗ (t ⊗ q), (t ⊗ b) ⊗ (v ⊗ q))) refl b v t q
+      ∙ ap₂ _*_ e (sym f)
+      ∙ by-ring 𝓡 4 (λ b v p o. ((v ⊗ o) ⊗ (p ⊗ b), b ⊗ v ⊗ (p ⊗ o))) refl b v p o)
 
-      crossed : coeff 𝓡 P *ˢ χ O ≡ coeff 𝓡 Q *ˢ χ T
-      crossed = sym (coeff-mulˢ 𝓡 P (chi 𝓡 O)) ∙ fun-ext same ∙ coeff-mulˢ 𝓡 Q (chi 𝓡 T)
+  module _ (m : ℕ) (e v : ℕ → F) (B : List F) (samples : Samples m e v B) where
+    B-some : (i : ℕ) → i < m → ¬ (prod 𝓡 B (e i) ≡ 𝟘)
+    B-some i l z = samples .outside i l (zero-prod 𝓕 B (e i) z)
 
-      go : ((k : ℕ) → coeff 𝓡 g k ≡ 𝟘) ⊎ ((k : ℕ) × HasDegree 𝓕 g k) → (coeff 𝓡 P′ ≡ χ T) × (coeff 𝓡 Q′ ≡ χ O)
-      go (inl z) = absurd (one-ne-zero (sym (mP .top) ∙ ap (λ s. s n) eP ∙ mul-at 𝓡 (coeff 𝓡 g) (coeff 𝓡 P′) n ∙ ap (λ s. cauchy 𝓡 s (coeff 𝓡 P′) n) (fun-ext z) ∙ cauchy-zero 𝓡 (coeff 𝓡 P′) n))
-      go (inr t) = read-off T O P Q g P′ Q′ dT dis crossed eP eQ (t .0) (t .1 .some) (isg .greatest) d mP′
+    -- monic polynomials of one degree, at most m, that agree at the points
+    same-at : (n : ℕ) (p q : List F) → Monic 𝓡 n p → Monic 𝓡 n q → n ≤ m → ((i : ℕ) → i < m → value 𝓡 p (e i) ≡ value 𝓡 q (e i)) → (k : ℕ) → coeff 𝓡 p k ≡ coeff 𝓡 q k
+    same-at n p q hp hq le at = agree 𝓕 n p q hp hq (tabulate m e) (tabulate-distinct m e (samples .apart)) (omega (arith, tabulate-length m e))
+        (λ x i. let r = tabulate-mem m e x i in ap (value 𝓡 p) (r .2) ∙ at (r .0) (r .1) ∙ sym (ap (value 𝓡 q) (r .2)))
 
-  -- Two sets A and B, their values at the points es, and a monic fraction P / Q that agrees with them: reduced, it is their two differences.
-  pub reconcile : (A B P Q g P′ Q′ : List F) → Distinct A → Distinct B → (n m k : ℕ) → Monic 𝓡 n P → Monic 𝓡 m Q → Monic 𝓡 k g
-      → n +ℕ length (without dec B A) ≡ m +ℕ length (without dec A B)
-      → (es : List F) → Distinct es → n +ℕ length (without dec B A) ≤ length es
-      → ((e : F) → e ∈ es → ¬ (e ∈ A))
-      → ((e : F) → e ∈ es → value 𝓡 P e * prod 𝓡 B e ≡ value 𝓡 Q e * prod 𝓡 A e)
-      → IsGcd 𝓕 g P Q → coeff 𝓡 P ≡ coeff 𝓡 g *ˢ coeff 𝓡 P′ → coeff 𝓡 Q ≡ coeff 𝓡 g *ˢ coeff 𝓡 Q′
-      → (coeff 𝓡 P′ ≡ χ (without dec A B)) × (coeff 𝓡 Q′ ≡ χ (without dec B A))
-  reconcile A B P Q g P′ Q′ dA dB n m k mP mQ mg eN es dE le out pts isg eP eQ =
-      decode (without dec A B) (without dec B A) P Q g P′ Q′ (without-distinct dec A B dA) (λ x i j. without-mem dec A B x i .1 (without-mem dec B A x j .0))
-      n m (d .0) mP mQ (d .1) eN es dE le at isg eP eQ
-    where
-      d : (d : ℕ) × Monic 𝓡 d P′
-      d = rest-monic 𝓕 n k P g P′ mP mg eP
+    -- Any monic P and Q of the right degrees whose fraction is that of the samples, reduced, are the sets of any pair that fits.
+    pub decode : (T O P Q g P′ Q′ : List F) → Fits m e v B T O → Distinct T → (n n′ d : ℕ) → Monic 𝓡 n P → Monic 𝓡 n′ Q → Monic 𝓡 d P′
+        → n +ℕ length O ≡ n′ +ℕ length T → n +ℕ length O ≤ m
+        → ((i : ℕ) → i < m → value 𝓡 P (e i) * prod 𝓡 B (e i) ≡ v i * value 𝓡 Q (e i))
+        → IsGcd 𝓕 g P Q → coeff 𝓡 P ≡ coeff 𝓡 g *ˢ coeff 𝓡 P′ → coeff 𝓡 Q ≡ coeff 𝓡 g *ˢ coeff 𝓡 Q′
+        → (coeff 𝓡 P′ ≡ χ T) × (coeff 𝓡 Q′ ≡ χ O)
+    decode T O P Q g P′ Q′ fits dT n n′ d mP mQ mP′ eN le pts isg eP eQ = go (degree 𝓕 g)
+      where
+        PO : List F
+        PO = mulᴾ 𝓡 P (chi 𝓡 O)
 
-      at : (e : F) → e ∈ es → value 𝓡 P e * value 𝓡 (chi 𝓡 (without dec B A)) e ≡ value 𝓡 Q e * value 𝓡 (chi 𝓡 (without dec A B)) e
-      at e i = ap (λ y. value 𝓡 P e * y) (value-chi 𝓡 (without dec B A) e)
-          ∙ frac (value 𝓡 P e) (value 𝓡 Q e) (prod 𝓡 A e) (prod 𝓡 B e) (prod 𝓡 (without dec A B) e) (prod 𝓡 (without dec B A) e) (λ z. out e i (zero-prod 𝓕 A e z)) (cross 𝓡 dec A B dA dB e) (pts e i)
-          ∙ sym (ap (λ y. value 𝓡 Q e * y) (value-chi 𝓡 (without dec A B) e))
-        where
-          frac : (p q a b t o : F) → ¬ (a ≡ 𝟘) → a * o ≡ b * t → p * b ≡ q * a → p * o ≡ q * t
-          frac p q a b t o h x y = sub-eq-zero 𝓡 (p * o) (q * t) (mul-cancel 𝓕 a (p * o + neg (q * t)) h
-              (by-ring 𝓡 6 (λ p q a b t o. (a ⊗ (p ⊗ o ⊝ q ⊗ t), p ⊗ (a ⊗ o) ⊝ t ⊗ (q ⊗ a))) refl p q a b t o ∙ ap₂ (λ u v. p * u + neg (t * v)) x (sym y) ∙ by-ring 𝓡 4 (λ p b t o. (p ⊗ (b ⊗ t) ⊝ t ⊗ (p ⊗ b), #0)) refl p b t o))
+        QT : List F
+        QT = mulᴾ 𝓡 Q (chi 𝓡 T)
 
-  -- the roots of what was found are the difference
+        at : (i : ℕ) → i < m → value 𝓡 PO (e i) ≡ value 𝓡 QT (e i)
+        at i l = value-mul 𝓡 P (chi 𝓡 O) (e i) ∙ ap (λ y. value 𝓡 P (e i) * y) (value-chi 𝓡 O (e i))
+            ∙ cross-ratio (prod 𝓡 B (e i)) (v i) (value 𝓡 P (e i)) (value 𝓡 Q (e i)) (prod 𝓡 T (e i)) (prod 𝓡 O (e i)) (B-some i l) (samples .some i l) (pts i l) (fits .agrees i l)
+            ∙ 𝓡 .mul-comm _ _ ∙ ap (λ y. value 𝓡 Q (e i) * y) (sym (value-chi 𝓡 T (e i))) ∙ sym (value-mul 𝓡 Q (chi 𝓡 T) (e i))
+
+        same : (k : ℕ) → coeff 𝓡 PO k ≡ coeff 𝓡 QT k
+        same = same-at (n +ℕ length O) PO QT (mul-monic 𝓕 n (length O) P (chi 𝓡 O) mP (chi-monic 𝓡 O))
+            (subst (λ N. Monic 𝓡 N QT) (sym eN) (mul-monic 𝓕 n′ (length T) Q (chi 𝓡 T) mQ (chi-monic 𝓡 T))) le at
+
+        crossed : coeff 𝓡 P *ˢ χ O ≡ coeff 𝓡 Q *ˢ χ T
+        crossed = sym (coeff-mulˢ 𝓡 P (chi 𝓡 O)) ∙ fun-ext same ∙ coeff-mulˢ 𝓡 Q (chi 𝓡 T)
+
+        go : ((k : ℕ) → coeff 𝓡 g k ≡ 𝟘) ⊎ ((k : ℕ) × HasDegree 𝓕 g k) → (coeff 𝓡 P′ ≡ χ T) × (coeff 𝓡 Q′ ≡ χ O)
+        go (inl z) = absurd (one-ne-zero (sym (mP .top) ∙ ap (λ s. s n) eP ∙ mul-at 𝓡 (coeff 𝓡 g) (coeff 𝓡 P′) n ∙ ap (λ s. cauchy 𝓡 s (coeff 𝓡 P′) n) (fun-ext z) ∙ cauchy-zero 𝓡 (coeff 𝓡 P′) n))
+        go (inr t) = read-off T O P Q g P′ Q′ dT (λ x i j. fits .new x i (fits .held x j)) crossed eP eQ (t .0) (t .1 .some) (isg .greatest) d mP′
+
+    -- Two pairs that fit, of one difference of counts and not too many keys, are one pair.
+    module _ (T₁ O₁ T₂ O₂ : List F) (fits₁ : Fits m e v B T₁ O₁) (fits₂ : Fits m e v B T₂ O₂)
+        (counts : length T₁ +ℕ length O₂ ≡ length T₂ +ℕ length O₁) (enough : length T₁ +ℕ length O₂ ≤ m) where
+      value-pair : (S S′ : List F) (x : F) → value 𝓡 (mulᴾ 𝓡 (chi 𝓡 S) (chi 𝓡 S′)) x ≡ prod 𝓡 S x * prod 𝓡 S′ x
+      value-pair S S′ x = value-mul 𝓡 (chi 𝓡 S) (chi 𝓡 S′) x ∙ ap₂ _*_ (value-chi 𝓡 S x) (value-chi 𝓡 S′ x)
+
+      same : (k : ℕ) → coeff 𝓡 (mulᴾ 𝓡 (chi 𝓡 T₁) (chi 𝓡 O₂)) k ≡ coeff 𝓡 (mulᴾ 𝓡 (chi 𝓡 T₂) (chi 𝓡 O₁)) k
+      same = same-at (length T₁ +ℕ length O₂) _ _ (mul-monic 𝓕 (length T₁) (length O₂) (chi 𝓡 T₁) (chi 𝓡 O₂) (chi-monic 𝓡 T₁) (chi-monic 𝓡 O₂))
+          (subst (λ N. Monic 𝓡 N (mulᴾ 𝓡 (chi 𝓡 T₂) (chi 𝓡 O₁))) (sym counts) (mul-monic 𝓕 (length T₂) (length O₁) (chi 𝓡 T₂) (chi 𝓡 O₁) (chi-monic 𝓡 T₂) (chi-monic 𝓡 O₁))) enough
+          (λ i l. value-pair T₁ O₂ (e i)
+          ∙ cross-ratio (prod 𝓡 B (e i)) (v i) (prod 𝓡 T₁ (e i)) (prod 𝓡 O₁ (e i)) (prod 𝓡 T₂ (e i)) (prod 𝓡 O₂ (e i)) (B-some i l) (samples .some i l) (fits₁ .agrees i l) (fits₂ .agrees i l)
+          ∙ sym (value-pair T₂ O₁ (e i)))
+
+      everywhere : (x : F) → prod 𝓡 T₁ x * prod 𝓡 O₂ x ≡ prod 𝓡 T₂ x * prod 𝓡 O₁ x
+      everywhere x = sym (value-pair T₁ O₂ x) ∙ value-ext 𝓕 (mulᴾ 𝓡 (chi 𝓡 T₁) (chi 𝓡 O₂)) (mulᴾ 𝓡 (chi 𝓡 T₂) (chi 𝓡 O₁)) same x ∙ value-pair T₂ O₁ x
+
+      pub one-theirs : (x : F) → x ∈ T₁ → x ∈ T₂
+      one-theirs x i = ⊎-elim (zero-prod 𝓕 T₂ x) (λ z. absurd (fits₁ .new x i (fits₁ .held x (zero-prod 𝓕 O₁ x z))))
+          (mul-eq-zero 𝓕 (prod 𝓡 T₂ x) (prod 𝓡 O₁ x) (sym (everywhere x) ∙ ap (λ y. y * prod 𝓡 O₂ x) (prod-zero 𝓕 T₁ x i) ∙ zero-mul 𝓡 _))
+
+      pub one-ours : (x : F) → x ∈ O₁ → x ∈ O₂
+      one-ours x i = ⊎-elim (λ z. absurd (fits₁ .new x (zero-prod 𝓕 T₁ x z) (fits₁ .held x i))) (zero-prod 𝓕 O₂ x)
+          (mul-eq-zero 𝓕 (prod 𝓡 T₁ x) (prod 𝓡 O₂ x) (everywhere x ∙ ap (λ y. prod 𝓡 T₂ x * y) (prod-zero 𝓕 O₁ x i) ∙ mul-zero 𝓡 _))
+
+  -- the roots of what was found are the set
   pub roots-are : (P′ T : List F) → coeff 𝓡 P′ ≡ χ T → (x : F) → (value 𝓡 P′ x ≡ 𝟘) ↔ x ∈ T
-  roots-are P′ T e x = (λ z. chi-root 𝓕 T x .0 (sym (same x) ∙ z), λ i. same x ∙ chi-root 𝓕 T x .1 i)
+  roots-are P′ T e x = (λ z. chi-root 𝓕 T x .0 (sym same ∙ z), λ i. same ∙ chi-root 𝓕 T x .1 i)
     where
-      same : (x : F) → value 𝓡 P′ x ≡ value 𝓡 (chi 𝓡 T) x
-      same = value-ext 𝓕 P′ (chi 𝓡 T) (λ k. ap (λ s. s k) e)
+      same : value 𝓡 P′ x ≡ value 𝓡 (chi 𝓡 T) x
+      same = value-at 𝓕 P′ (chi 𝓡 T) e x
 
-  -- equal coefficients and equal lengths: equal lists
-  pub list-ext : (p q : List F) → length p ≡ length q → ((k : ℕ) → coeff 𝓡 p k ≡ coeff 𝓡 q k) → p ≡ q
-  list-ext p q e h = ext-getD 𝟘 p q e (λ i l. h i)
-
-  -- Two pairs (T₁, O₁) and (T₂, O₂) with T new to B and O within B, of one difference of counts, whose values T·B and v·O are
-  -- equal at each of the points es, where neither B nor v is 0.
-  module _ (B T₁ O₁ T₂ O₂ : List F) (new₁ : (x : F) → x ∈ T₁ → ¬ (x ∈ B)) (held₁ : (x : F) → x ∈ O₁ → x ∈ B)
-      (counts : length T₁ +ℕ length O₂ ≡ length T₂ +ℕ length O₁)
-      (es : List F) (distinct : Distinct es) (enough : length T₁ +ℕ length O₂ ≤ length es)
-      (v : F → F) (some : (e : F) → e ∈ es → ¬ (v e ≡ 𝟘)) (out : (e : F) → e ∈ es → ¬ (e ∈ B))
-      (at₁ : (e : F) → e ∈ es → prod 𝓡 T₁ e * prod 𝓡 B e ≡ v e * prod 𝓡 O₁ e)
-      (at₂ : (e : F) → e ∈ es → prod 𝓡 T₂ e * prod 𝓡 B e ≡ v e * prod 𝓡 O₂ e) where
-    crossed : (e : F) → e ∈ es → prod 𝓡 T₁ e * prod 𝓡 O₂ e ≡ prod 𝓡 T₂ e * prod 𝓡 O₁ e
-    crossed e i = cancel-left 𝓕 (prod 𝓡 B e * v e) _ _ (λ z. ⊎-elim (λ z′. out e i (zero-prod 𝓕 B e z′)) (some e i) (mul-eq-zero 𝓕 (prod 𝓡 B e) (v e) z))
-        (by-ring 𝓡 4 (λ b v t o. (b ⊗ v ⊗ (t ⊗ o), (t ⊗ b) ⊗ (v ⊗ o))) refl (prod 𝓡 B e) (v e) (prod 𝓡 T₁ e) (prod 𝓡 O₂ e)
-        ∙ ap₂ _*_ (at₁ e i) (sym (at₂ e i))
-        ∙ by-ring 𝓡 4 (λ b v t o. ((v ⊗ o) ⊗ (t ⊗ b), b ⊗ v ⊗ (t ⊗ o))) refl (prod 𝓡 B e) (v e) (prod 𝓡 T₂ e) (prod 𝓡 O₁ e))
-
-    abbrev TO : List F
-    TO = mulᴾ 𝓡 (chi 𝓡 T₁) (chi 𝓡 O₂)
-
-    abbrev OT : List F
-    OT = mulᴾ 𝓡 (chi 𝓡 T₂) (chi 𝓡 O₁)
-
-    value-pair : (S S′ : List F) (x : F) → value 𝓡 (mulᴾ 𝓡 (chi 𝓡 S) (chi 𝓡 S′)) x ≡ prod 𝓡 S x * prod 𝓡 S′ x
-    value-pair S S′ x = value-mul 𝓡 (chi 𝓡 S) (chi 𝓡 S′) x ∙ ap₂ _*_ (value-chi 𝓡 S x) (value-chi 𝓡 S′ x)
-
-    same : (k : ℕ) → coeff 𝓡 TO k ≡ coeff 𝓡 OT k
-    same = agree 𝓕 (length T₁ +ℕ length O₂) TO OT (mul-monic 𝓕 (length T₁) (length O₂) (chi 𝓡 T₁) (chi 𝓡 O₂) (chi-monic 𝓡 T₁) (chi-monic 𝓡 O₂))
-        (subst (λ N. Monic 𝓡 N OT) (sym counts) (mul-monic 𝓕 (length T₂) (length O₁) (chi 𝓡 T₂) (chi 𝓡 O₁) (chi-monic 𝓡 T₂) (chi-monic 𝓡 O₁))) es distinct enough
-        (λ e i. value-pair T₁ O₂ e ∙ crossed e i ∙ sym (value-pair T₂ O₁ e))
-
-    everywhere : (x : F) → prod 𝓡 T₁ x * prod 𝓡 O₂ x ≡ prod 𝓡 T₂ x * prod 𝓡 O₁ x
-    everywhere x = sym (value-pair T₁ O₂ x) ∙ value-ext 𝓕 TO OT same x ∙ value-pair T₂ O₁ x
-
-    pub one-theirs : (x : F) → x ∈ T₁ → x ∈ T₂
-    one-theirs x i = ⊎-elim (zero-prod 𝓕 T₂ x) (λ z. absurd (new₁ x i (held₁ x (zero-prod 𝓕 O₁ x z))))
-        (mul-eq-zero 𝓕 (prod 𝓡 T₂ x) (prod 𝓡 O₁ x) (sym (everywhere x) ∙ ap (λ y. y * prod 𝓡 O₂ x) (prod-zero 𝓕 T₁ x i) ∙ zero-mul 𝓡 _))
-
-    pub one-ours : (x : F) → x ∈ O₁ → x ∈ O₂
-    one-ours x i = ⊎-elim (λ z. absurd (new₁ x (zero-prod 𝓕 T₁ x z) (held₁ x i))) (zero-prod 𝓕 O₂ x)
-        (mul-eq-zero 𝓕 (prod 𝓡 T₁ x) (prod 𝓡 O₂ x) (everywhere x ∙ ap (λ y. prod 𝓡 T₂ x * y) (prod-zero 𝓕 O₁ x i) ∙ mul-zero 𝓡 _))
+  -- two sets without repeats: what each has besides fits, with the values of the one against the other
+  pub sets-fit : (m : ℕ) (e : ℕ → F) (A B : List F) → Distinct A → Distinct B → Fits m e (λ i. prod 𝓡 A (e i)) B (without dec A B) (without dec B A)
+  sets-fit m e A B dA dB = record {
+    new = λ x i. without-mem dec A B x i .1;
+    held = λ x i. without-mem dec B A x i .0;
+    agrees = λ i l. 𝓡 .mul-comm _ _ ∙ sym (cross 𝓡 dec A B dA dB (e i));
+  }

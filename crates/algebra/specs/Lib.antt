@@ -3,6 +3,7 @@ pub mod Ring
 pub mod Solver
 pub mod Field
 pub mod Sets
+pub mod Tabulate
 pub mod Remainder
 pub mod Prime
 pub mod Trial
@@ -17,3 +18,4 @@ pub mod Divide
 pub mod Gcd
 pub mod Fraction
 pub mod Linear
+pub mod Interpolate

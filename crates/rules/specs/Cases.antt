@@ -7,7 +7,7 @@ use native.Mathlib.Omega.{arith}
 use lib.ListN.{take}
 use Rattle.algebra.specs.Arithmetic.{productOf}
 use Rattle.rules.specs.Numbers.{point, mostSamples, LegalKey}
-use Rattle.rules.specs.Slots.{tabulate}
+use Rattle.algebra.specs.Tabulate.{tabulate}
 use Rattle.rules.specs.Sketches.{value, sketchOf}
 use Rattle.rules.specs.Messages.{fields, message}
 use Rattle.rules.specs.Calls.{listAnswer, sketchAnswer}

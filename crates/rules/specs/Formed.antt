@@ -18,7 +18,7 @@ use lib.ListN.{length, getD}
 use Rattle.rules.specs.Numbers.{modulus, mostSamples, listLimit, plans, samples}
 use Rattle.rules.specs.Tests.{and-true, true-and}
 use Rattle.rules.specs.Plans.{samples-most}
-use Rattle.rules.specs.Slots.{tabulate-at, tabulate-length}
+use Rattle.algebra.specs.Tabulate.{tabulate-at, tabulate-length}
 use Rattle.rules.specs.Sketches.{slots, WellFormed, goodSlot, goodSlots, wellFormed, blank}
 use Rattle.rules.specs.declared.Sketch.{Sketch}
 

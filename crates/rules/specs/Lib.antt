@@ -1,7 +1,6 @@
 -- Document 01 in its order. What a reader must believe: Numbers, Sketches, Messages, Differences, Refusals,
--- Calls. What is shown of them: Slots, Tests, Plans, Formed, Legal, Cases.
+-- Calls. What is shown of them: Tests, Plans, Formed, Legal, Cases.
 pub mod Numbers
-pub mod Slots
 pub mod Sketches
 pub mod Messages
 pub mod Differences
