@@ -1,11 +1,12 @@
 -- Document 01 in its order. What a reader must believe: Numbers, Sketches, Messages, Differences, Refusals,
--- Calls. What is shown of them: Tests, Plans, Formed, Legal, Cases.
+-- Calls, Reconciling. What is shown of them: Tests, Plans, Formed, Legal, Cases.
 pub mod Numbers
 pub mod Sketches
 pub mod Messages
 pub mod Differences
 pub mod Refusals
 pub mod Calls
+pub mod Reconciling
 pub mod Tests
 pub mod Plans
 pub mod Formed
