@@ -8,6 +8,7 @@
 --   value-ext                the same coefficients, the same values
 --   chi-cons, roots-divide   chi of one key more; a polynomial with the distinct roots s is a multiple of chi s
 --   unit-const               what divides 1 is a constant
+--   monic-degree             the same coefficients, the same degree
 --   rest-monic               what a monic divisor leaves of a monic polynomial is monic
 --
 -- Assumes nothing.
@@ -128,6 +129,15 @@ module _ {F : Type 0} (𝓕 : Field F) where
           end : Dec (k +ℕ t .0 < n) → coeff 𝓡 P (k +ℕ t .0) ≡ 𝟙
           end (yes l) = absurd (one-ne-zero (sym (mP .top) ∙ at n ∙ mul-past k (t .0) n (coeff 𝓡 g) (coeff 𝓡 P′) (mg .above) (t .1 .above) l))
           end (no l) = ⊎-elim (λ e. rw e at (mP .top)) (λ l′. absurd (t .1 .some (sym top ∙ mP .above (k +ℕ t .0) l′))) (eq-or-lt-of-le {n = n} {m = k +ℕ t .0} (omega arith))
+
+  -- the same coefficients, the same degree
+  pub monic-degree : (n k : ℕ) (p q : List F) → Monic 𝓡 n p → Monic 𝓡 k q → coeff 𝓡 p ≡ coeff 𝓡 q → n ≡ k
+  monic-degree n k p q hp hq e = go (decLt n k) (decLt k n)
+    where
+      go : Dec (n < k) → Dec (k < n) → n ≡ k
+      go (yes l) d = absurd (one-ne-zero (sym (hq .top) ∙ sym (ap (λ s. s k) e) ∙ hp .above k l))
+      go (no l) (yes l′) = absurd (one-ne-zero (sym (hp .top) ∙ ap (λ s. s n) e ∙ hq .above n l′))
+      go (no l) (no l′) = omega arith
 
   abbrev pub Divides : List F → List F → Type 0
   Divides d p = (q : List F) × (coeff 𝓡 p ≡ coeff 𝓡 d *ˢ coeff 𝓡 q)

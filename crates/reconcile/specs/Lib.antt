@@ -1,2 +1,3 @@
 pub mod Gap
 pub mod InField
+pub mod Method
