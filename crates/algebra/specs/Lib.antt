@@ -14,8 +14,10 @@ pub mod Product
 pub mod Arithmetic
 pub mod Polynomial
 pub mod Series
+pub mod Raise
 pub mod Divide
 pub mod Gcd
+pub mod Divisors
 pub mod Fraction
 pub mod Linear
 pub mod Interpolate

@@ -25,7 +25,6 @@ use Rattle.rules.specs.Sketches.{value}
 use Rattle.rules.specs.Differences.{Difference}
 use Rattle.residue.specs.Field.{Fp, 𝓕, res, mul-is, product-is}
 use Rattle.reconcile.specs.Gap.{gap-eq}
-
 open Field 𝓕 using (ring as 𝓡)
 open CRing 𝓡 using (mul, zero)
 
@@ -72,9 +71,9 @@ difference-fits m n v home theirs ours keys d = record {
   new = λ x i j. let r = Memᴰ·of-map res theirs i in let k = r .0 in let s = keys-small theirs (d .theirs-keys) k (r .1) in d .new k (r .1) (res-mem k home s (keys-small home keys) (Memᴰ·cast (r .2) j));
   held = λ x i. let r = Memᴰ·of-map res ours i in Memᴰ·cast (sym (r .2)) (mem-res (r .0) home (d .held (r .0) (r .1)));
   agrees = λ i l.
-    ap₂ mul (sym (product-is theirs (point (suc i)))) (sym (product-is home (point (suc i))))
-    ∙ sym (mul-is (value theirs (point (suc i))) (value home (point (suc i)))) ∙ ap res (d .agrees i l) ∙ mul-is (getD v i 0) (value ours (point (suc i)))
-    ∙ ap (mul (res (getD v i 0))) (product-is ours (point (suc i)));
+      ap₂ mul (sym (product-is theirs (point (suc i)))) (sym (product-is home (point (suc i))))
+      ∙ sym (mul-is (value theirs (point (suc i))) (value home (point (suc i)))) ∙ ap res (d .agrees i l) ∙ mul-is (getD v i 0) (value ours (point (suc i)))
+      ∙ ap (mul (res (getD v i 0))) (product-is ours (point (suc i)));
 }
 
 module _ (m n : ℕ) (v home T₁ O₁ T₂ O₂ : List ℕ) (le : m ≤ mostSamples) (good : Good m v) (keys : Keys home)

@@ -25,14 +25,14 @@ use Rattle.algebra.specs.Series.{series}
 use Rattle.algebra.specs.Divide.{monic-degree}
 use Rattle.algebra.specs.Gcd.{IsGcd}
 use Rattle.algebra.specs.Linear.{dot, dot-ext, Meets}
-use Rattle.algebra.specs.Interpolate.{row, pow, raised, raised-monic, raised-value, lowers, lowers-hold, agree-meets}
+use Rattle.algebra.specs.Raise.{pow, raise, raise-monic, raise-value}
+use Rattle.algebra.specs.Interpolate.{row, lowers, lowers-hold, agree-meets}
 use Rattle.algebra.specs.Fraction.{χ, decode, roots-are}
 use Rattle.rules.specs.Numbers.{modulus, mostSamples, Keys}
 use Rattle.rules.specs.Differences.{Difference}
 use Rattle.residue.specs.Field.{Fp, 𝓕, res}
 use Rattle.reconcile.specs.Gap.{gap-eq}
 use Rattle.reconcile.specs.InField.{sampleAt, Good, keys-small, mem-res, res-mem, distinct-res, samples-of, difference-fits}
-
 open Field 𝓕 using (ring as 𝓡, one-ne-zero)
 open CRing 𝓡 using (mul, zero, one)
 open CRing (series 𝓡) using (mul as mulˢ)
@@ -76,33 +76,36 @@ module _ (m n : ℕ) (v home : List ℕ) (le : m ≤ mostSamples) (good : Good m
 
     -- Zᵏ·χ_T and Zᵏ·χ_O, of the degrees that are asked for
     abbrev P₀ : List Fp
-    P₀ = raised 𝓡 (sizes .spare) (chi 𝓡 T)
+    P₀ = raise 𝓡 (sizes .spare) (chi 𝓡 T)
 
     abbrev Q₀ : List Fp
-    Q₀ = raised 𝓡 (sizes .spare) (chi 𝓡 O)
+    Q₀ = raise 𝓡 (sizes .spare) (chi 𝓡 O)
 
     monic-P₀ : Monic 𝓡 dP P₀
-    monic-P₀ = subst (λ k. Monic 𝓡 k P₀) (ap (λ k. sizes .spare + k) (length-map theirs res) ∙ sym (sizes .theirs)) (raised-monic 𝓡 (sizes .spare) (length T) (chi 𝓡 T) (chi-monic 𝓡 T))
+    monic-P₀ = subst (λ k. Monic 𝓡 k P₀) (ap (λ k. sizes .spare + k) (length-map theirs res) ∙ sym (sizes .theirs)) (raise-monic 𝓡 (sizes .spare) (length T) (chi 𝓡 T) (chi-monic 𝓡 T))
 
     monic-Q₀ : Monic 𝓡 dQ Q₀
-    monic-Q₀ = subst (λ k. Monic 𝓡 k Q₀) (ap (λ k. sizes .spare + k) (length-map ours res) ∙ sym (sizes .ours)) (raised-monic 𝓡 (sizes .spare) (length O) (chi 𝓡 O) (chi-monic 𝓡 O))
+    monic-Q₀ = subst (λ k. Monic 𝓡 k Q₀) (ap (λ k. sizes .spare + k) (length-map ours res) ∙ sym (sizes .ours)) (raise-monic 𝓡 (sizes .spare) (length O) (chi 𝓡 O) (chi-monic 𝓡 O))
 
     agrees₀ : (i : ℕ) → i < m → mul (value 𝓡 P₀ (sampleAt i)) (prod 𝓡 (map res home) (sampleAt i)) ≡ mul (res (getD v i 0)) (value 𝓡 Q₀ (sampleAt i))
     agrees₀ i l =
-        ap (λ y. mul y (prod 𝓡 (map res home) (sampleAt i))) (raised-value 𝓡 (sizes .spare) (chi 𝓡 T) (sampleAt i) ∙ ap (mul w) (value-chi 𝓡 T (sampleAt i)))
+        ap (λ y. mul y (prod 𝓡 (map res home) (sampleAt i))) (raise-value 𝓡 (sizes .spare) (chi 𝓡 T) (sampleAt i) ∙ ap (mul w) (value-chi 𝓡 T (sampleAt i)))
         ∙ 𝓡 .mul-assoc w (prod 𝓡 T (sampleAt i)) (prod 𝓡 (map res home) (sampleAt i))
         ∙ ap (mul w) (difference-fits m n v home theirs ours keys d .agrees i l)
         ∙ mul-left-comm 𝓡 w (res (getD v i 0)) (prod 𝓡 O (sampleAt i))
-        ∙ ap (mul (res (getD v i 0))) (ap (mul w) (sym (value-chi 𝓡 O (sampleAt i))) ∙ sym (raised-value 𝓡 (sizes .spare) (chi 𝓡 O) (sampleAt i)))
+        ∙ ap (mul (res (getD v i 0))) (ap (mul w) (sym (value-chi 𝓡 O (sampleAt i))) ∙ sym (raise-value 𝓡 (sizes .spare) (chi 𝓡 O) (sampleAt i)))
       where
         w : Fp
         w = pow 𝓡 (sampleAt i) (sizes .spare)
 
     pub solvable : (E : ℕ → ℕ → Fp) → ((i j : ℕ) → i < m → j ≤ dP + dQ → E i j ≡ rowAt i j) → (x : ℕ → Fp) × Meets 𝓡 (dP + dQ) m E x
-    solvable E rows = (x₀, λ i l.
-        dot-ext 𝓡 (dP + dQ) (E i) x₀ (rowAt i) x₀ (λ j h. rows i j l (omega arith)) (λ j h. refl)
-        ∙ agree-meets 𝓡 dP dQ x₀ P₀ Q₀ (lowers-hold 𝓡 dP dQ P₀ Q₀ monic-P₀ monic-Q₀) (sampleAt i) (prod 𝓡 (map res home) (sampleAt i)) (res (getD v i 0)) (agrees₀ i l)
-        ∙ sym (rows i (dP + dQ) l (omega arith)))
+    solvable E rows = (
+      x₀,
+      λ i l.
+          dot-ext 𝓡 (dP + dQ) (E i) x₀ (rowAt i) x₀ (λ j h. rows i j l (omega arith)) (λ j h. refl)
+          ∙ agree-meets 𝓡 dP dQ x₀ P₀ Q₀ (lowers-hold 𝓡 dP dQ P₀ Q₀ monic-P₀ monic-Q₀) (sampleAt i) (prod 𝓡 (map res home) (sampleAt i)) (res (getD v i 0)) (agrees₀ i l)
+          ∙ sym (rows i (dP + dQ) l (omega arith)),
+    )
       where
         x₀ : ℕ → Fp
         x₀ = lowers 𝓡 dP P₀ Q₀

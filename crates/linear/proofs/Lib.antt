@@ -1,0 +1,6 @@
+pub mod Places
+pub mod Sums
+pub mod Search
+pub mod Diagonal
+pub mod Spanning
+pub mod Answers
