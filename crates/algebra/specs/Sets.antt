@@ -7,7 +7,8 @@
 --   permutes          distinct, included and not shorter: a permutation
 --   shorter           distinct and included: not longer
 --   same-members      without repeats and with the same members: a permutation
---   fold-perm         a fold whose steps commute does not see the order
+--   fold-perm         a fold whose steps commute does not see the order; length-perm: nor does the length
+--   cover             s with what t has besides, and t with what s has besides: one set
 --   Ascending l       strictly ascending numbers; then Distinct
 --   ascending-ext     ascending lists with the same members are equal
 --
@@ -76,6 +77,13 @@ fold-perm f e commute List·Permᴰ·nil = refl
 fold-perm f e commute (List·Permᴰ·cons h d) = ap₂ f h (fold-perm f e commute d)
 fold-perm f e commute (List·Permᴰ·swap {a = a} {b = b} {l = l} h k) = commute a b (foldr f e l) ∙ ap₂ (λ x y. f x (f y (foldr f e l))) k h
 fold-perm f e commute (List·Permᴰ·trans d d′) = fold-perm f e commute d ∙ fold-perm f e commute d′
+
+pub length-perm : {A : Type 0} {l m : List A} → List·Permᴰ l m → length l ≡ length m
+length-perm {A} {l} {m} d = sym (counted l) ∙ fold-perm (λ _ n. suc n) 0 (λ a b n. refl) d ∙ counted m
+  where
+    counted : (l : List A) → foldr (λ _ n. suc n) 0 l ≡ length l
+    counted [] = refl
+    counted (x ∷ l) = ap suc (counted l)
 
 module _ {A : Type 0} (dec : (a b : A) → Dec (a ≡ b)) where
   pub mem? : (a : A) (s : List A) → Dec (a ∈ s)

@@ -30,7 +30,7 @@ use Rattle.rules.specs.Sketches.{slots, WellFormed, blank}
 use Rattle.rules.specs.Formed.{slots-at, slots-length, tested}
 use Rattle.rules.specs.Messages.{bits, number, bitsOfAll, version, versionWidth, planWidth, planAt, sizeWidth, sizeAt, valueWidth, valueAt, fields, messageLength, bytes, message, fieldAt}
 use Rattle.rules.specs.Refusals.{numberOf, when, _then_, given}
-use Rattle.rules.specs.Tests.{when-done, done-when, then-done, done-then}
+use Rattle.rules.specs.Tests.{when-done, done-when, then-done, done-then, or-false}
 use Rattle.rules.specs.Calls.{writeAnswer, writeLength, writeBuffer, messagePlan, messageSamples, messageSize, messageValue, messagePadding, valuesAnswer, readAnswer, sketchIn, readResult}
 use Rattle.rules.specs.declared.Sketch.{Sketch}
 use Rattle.rules.specs.declared.Refusal.{Refusal}
@@ -45,10 +45,6 @@ GoodValue v = (0 < v) × (v < modulus)
 
 abbrev badValue : ℕ → Bool
 badValue v = eqb v 0 || leb modulus v
-
-or-false : (a b : Bool) → a || b ≡ false → (a ≡ false) × (b ≡ false)
-or-false true b e = (e, cc)
-or-false false b e = (refl, e)
 
 good-value : (v : ℕ) → badValue v ≡ false → GoodValue v
 good-value v e = let p = or-false (eqb v 0) (leb modulus v) e in (omega (arith, eqb-false v 0 (p .0)), leb-false modulus v (p .1))

