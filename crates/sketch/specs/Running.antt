@@ -1,0 +1,115 @@
+-- The running sketch is the sketch of what was added and not removed.
+--
+--   added-formed, removed-formed   an update that is not refused leaves a well-formed sketch
+--   remove-added, add-removed      removing undoes adding, and the other way round
+--   add-one-more           adding a key to a sketch of keys gives the sketch of the keys and that one
+--   remove-last            removing it gives the sketch back
+--   sketch-perm            the order of the keys does not matter
+--   addAll, add-all        adding the keys of a legal list, one by one, gives its sketch
+--
+-- Assumes nothing.
+use mathlib.Core.Path.{_≡_, refl, sym, ap, ap₂, _∙_}
+use mathlib.Core.Logic.{⊎-elim}
+use mathlib.Core.List.{List, [], _∷_, _++_, append-assoc, append-nil, List·Memᴰ·head, List·Memᴰ·tail, List·Memᴰ·not-nil, List·Memᴰ·append-cases, List·Memᴰ·eq-of-singleton, List·Permᴰ, List·Permᴰ·nil, List·Permᴰ·cons, List·Permᴰ·swap, List·Permᴰ·trans}
+use Prim.Native.Nat.{ℕ, suc, _+_, _-_, _%_, _≤_, _<_}
+use native.Mathlib.Nat.{mod-eq-of-lt, mul-one}
+use native.Mathlib.Omega.{arith}
+use lib.ListN.{length, getD, length-append}
+use Rattle.algebra.specs.Sets.{_∈_}
+use Rattle.algebra.specs.Arithmetic.{mulOf, mulOf-assoc, mulOf-comm, productOf-perm}
+use Rattle.rules.specs.Numbers.{modulus, point, LegalKey, mostSamples, listLimit, plans, samples, LegalList}
+use Rattle.rules.specs.Sketches.{sketchOf, WellFormed, withKey, withoutKey, value}
+use Rattle.rules.specs.Calls.{addResult, removeResult}
+use Rattle.rules.specs.declared.Sketch.{Sketch}
+use Rattle.sketch.specs.Filled.{slot-low, slot-high, slots-ext, slots-same}
+use Rattle.sketch.specs.Factors.{factorOf, multiplied, changedBy}
+use Rattle.sketch.specs.Values.{values-snoc}
+use Rattle.sketch.specs.Updates.{adds, removes}
+use Rattle.sketch.specs.Proper.{factors-undo}
+use Rattle.sketch.specs.Formed.{sketch-formed, changed-formed}
+use Rattle.sketch.specs.declared.Change.{Change}
+use Rattle.sketch.specs.declared.Change.the-variants.{Add, Remove}
+
+pub added-formed : (s : Sketch) (k : ℕ) → WellFormed s → LegalKey k → s .size < listLimit → WellFormed (addResult s k)
+added-formed s k w l h = rw (adds s k w l h) (changed-formed Add s k (s .size + 1) w l (omega arith))
+
+pub removed-formed : (s : Sketch) (k : ℕ) → WellFormed s → LegalKey k → 0 < s .size → WellFormed (removeResult s k)
+removed-formed s k w l h = rw (removes s k w l h) (changed-formed Remove s k (s .size - 1) w l (omega (arith, w .size)))
+
+-- values that are multiplied by factors, and then by factors that undo those, are as they were
+undone : (m : ℕ) (f g : ℕ → ℕ) (l : List ℕ) → length l ≡ mostSamples → ((i : ℕ) → i < m → getD l i 0 < modulus) → ((i : ℕ) → i < mostSamples → mulOf modulus (f i) (g i) ≡ 1) → multiplied m g (multiplied m f l) ≡ l
+undone m f g l count below undo =
+    slots-ext m (λ i. mulOf modulus (getD (multiplied m f l) i 0) (g i)) (λ i. getD l i 0) (λ i. getD (multiplied m f l) i 0) (λ i. getD l i 0) low high
+    ∙ slots-same m l count
+  where
+    low : (i : ℕ) → i < m → i < mostSamples → mulOf modulus (getD (multiplied m f l) i 0) (g i) ≡ getD l i 0
+    low i h b =
+        ap (λ (v : ℕ). mulOf modulus v (g i)) (slot-low m (λ j. mulOf modulus (getD l j 0) (f j)) (λ j. getD l j 0) i h b)
+        ∙ mulOf-assoc modulus (getD l i 0) (f i) (g i) ∙ ap (mulOf modulus (getD l i 0)) (undo i b)
+        ∙ ap (λ (v : ℕ). v % modulus) (mul-one (getD l i 0)) ∙ mod-eq-of-lt (below i h)
+
+    high : (i : ℕ) → m ≤ i → i < mostSamples → getD (multiplied m f l) i 0 ≡ getD l i 0
+    high i h b = slot-high m (λ j. mulOf modulus (getD l j 0) (f j)) (λ j. getD l j 0) i h b
+
+abbrev resized : Sketch → ℕ → List ℕ → Sketch
+resized s size l = record { plan = s .plan; size = size; values = l }
+
+-- a change and the one that undoes it, with the size that was
+changed-back : (change back : Change) (s : Sketch) (k there size : ℕ) → WellFormed s → ((i : ℕ) → i < mostSamples → mulOf modulus (factorOf change k i) (factorOf back k i) ≡ 1) → size ≡ s .size → changedBy back (changedBy change s k there) k size ≡ s
+changed-back change back s k there size w undo e = ap₂ (resized s) e (undone (samples (s .plan)) (factorOf change k) (factorOf back k) (s .values) (w .count) (w .high) undo)
+
+pub remove-added : (s : Sketch) (k : ℕ) → WellFormed s → LegalKey k → s .size < listLimit → removeResult (addResult s k) k ≡ s
+remove-added s k w l h =
+    let grown : s .size + 1 ≤ listLimit = omega arith in
+    let some : 0 < s .size + 1 = omega arith in
+    let size : s .size + 1 - 1 ≡ s .size = omega arith in
+    ap (λ (t : Sketch). removeResult t k) (adds s k w l h)
+    ∙ removes (withKey s k) k (changed-formed Add s k (s .size + 1) w l grown) l some
+    ∙ changed-back Add Remove s k (s .size + 1) (s .size + 1 - 1) w (λ i b. factors-undo k i l b) size
+
+pub add-removed : (s : Sketch) (k : ℕ) → WellFormed s → LegalKey k → 0 < s .size → addResult (removeResult s k) k ≡ s
+add-removed s k w l h =
+    let fewer : s .size - 1 < listLimit = omega (arith, w .size) in
+    let size : s .size - 1 + 1 ≡ s .size = omega arith in
+    ap (λ (t : Sketch). addResult t k) (removes s k w l h)
+    ∙ adds (withoutKey s k) k (changed-formed Remove s k (s .size - 1) w l (omega arith)) l fewer
+    ∙ changed-back Remove Add s k (s .size - 1) (s .size - 1 + 1) w (λ i b. mulOf-comm modulus (factorOf Remove k i) (factorOf Add k i) ∙ factors-undo k i l b) size
+
+abbrev kept : ℕ → ℕ → List ℕ → Sketch
+kept plan size l = record { plan = plan; size = size; values = l }
+
+pub add-one-more : (plan : ℕ) (ks : List ℕ) (k : ℕ) → plan < plans → ((j : ℕ) → j ∈ ks → LegalKey j) → LegalKey k → length ks < listLimit → addResult (sketchOf plan ks) k ≡ sketchOf plan (ks ++ k ∷ [])
+add-one-more plan ks k p legal l h =
+    adds (sketchOf plan ks) k (sketch-formed plan ks p legal (omega arith)) l h
+    ∙ ap₂ (kept plan) (sym (length-append ks (k ∷ []))) (values-snoc (samples plan) ks k)
+
+pub remove-last : (plan : ℕ) (ks : List ℕ) (k : ℕ) → plan < plans → ((j : ℕ) → j ∈ ks → LegalKey j) → LegalKey k → length ks < listLimit → removeResult (sketchOf plan (ks ++ k ∷ [])) k ≡ sketchOf plan ks
+remove-last plan ks k p legal l h =
+    ap (λ (t : Sketch). removeResult t k) (sym (add-one-more plan ks k p legal l h))
+    ∙ remove-added (sketchOf plan ks) k (sketch-formed plan ks p legal (omega arith)) l h
+
+length-perm : {s t : List ℕ} → List·Permᴰ s t → length s ≡ length t
+length-perm List·Permᴰ·nil = refl
+length-perm (List·Permᴰ·cons e d) = ap suc (length-perm d)
+length-perm (List·Permᴰ·swap e₁ e₂) = refl
+length-perm (List·Permᴰ·trans d₁ d₂) = length-perm d₁ ∙ length-perm d₂
+
+pub sketch-perm : (plan : ℕ) {s t : List ℕ} → List·Permᴰ s t → sketchOf plan s ≡ sketchOf plan t
+sketch-perm plan {s} {t} d = ap₂ (kept plan) (length-perm d) (slots-ext (samples plan) (λ i. value s (point (suc i))) (λ i. value t (point (suc i))) (λ _. 0) (λ _. 0) (λ i l h. productOf-perm modulus d (point (suc i))) (λ i l h. refl))
+
+abbrev pub addAll : Sketch → List ℕ → Sketch
+addAll s [] = s
+addAll s (k ∷ ks) = addAll (addResult s k) ks
+
+-- from any keys on
+add-rest : (plan : ℕ) (done ks : List ℕ) → plan < plans → ((j : ℕ) → j ∈ done → LegalKey j) → ((j : ℕ) → j ∈ ks → LegalKey j) → length done + length ks ≤ listLimit → addAll (sketchOf plan done) ks ≡ sketchOf plan (done ++ ks)
+add-rest plan done [] p before after h = ap (sketchOf plan) (sym (append-nil done))
+add-rest plan done (k ∷ ks) p before after h =
+    ap (λ (t : Sketch). addAll t ks) (add-one-more plan done k p before (after k (List·Memᴰ·head refl)) (omega arith))
+    ∙ add-rest plan (done ++ k ∷ []) ks p
+    (λ j m. ⊎-elim (before j) (λ o. after j (List·Memᴰ·head (List·Memᴰ·eq-of-singleton o))) (List·Memᴰ·append-cases done m)) (λ j m. after j (List·Memᴰ·tail m))
+    (omega (arith, length-append done (k ∷ [])))
+    ∙ ap (sketchOf plan) (append-assoc done (k ∷ []) ks)
+
+pub add-all : (plan : ℕ) (ks : List ℕ) → plan < plans → LegalList ks → addAll (sketchOf plan []) ks ≡ sketchOf plan ks
+add-all plan ks p l = add-rest plan [] ks p (λ j m. absurd (List·Memᴰ·not-nil m)) (l .keys .legal) (omega (arith, l .short))
