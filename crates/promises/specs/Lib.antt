@@ -1,2 +1,4 @@
 pub mod Unique
 pub mod Demands
+pub mod Claims
+pub mod Starred
