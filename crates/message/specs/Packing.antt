@@ -15,7 +15,7 @@
 --   blocks-length, blocks-at, blocks-below     how many, what stands at an index, each below 2 ^ w
 --   all-blocks, blocks-all         bits to numbers and back; numbers to bits and back
 --   bytes-length, bytes-below, all-bytes, all-bytes-zeros, bytes-all      the same of bytes
---   field-bytes                    a field of packed bits, as it is read from the bytes
+--   field-bytes, field-below       a field of packed bits, as it is read from the bytes; a field of w bits is below 2 ^ w
 --
 -- Assumes nothing.
 use mathlib.Core.Path.{_≡_, refl, sym, ap, ap₂, _∙_}
@@ -257,3 +257,7 @@ unfolding fieldAt
 field-bytes n bs f h at w =
     ap (λ l. number w (drop at l)) (all-bytes n bs f)
     ∙ number-ext w (drop at (padded (8 * n) bs)) (drop at bs) (λ i _. getD-drop at (padded (8 * n) bs) i 0 ∙ padded-all (8 * n) bs h (at + i) ∙ sym (getD-drop at bs i 0))
+
+pub field-below : (b : List ℕ) (at w : ℕ) → fieldAt b at w < 2 ^ w
+unfolding fieldAt
+field-below b at w = number-below w (drop at (bitsOfAll 8 b)) (below-drop 2 at (bitsOfAll 8 b) (all-below 8 b))

@@ -3,7 +3,7 @@
 --   GoodValue v, Readable b        a value that a message may hold, and the tests of reading as facts
 --   readable, accepted             readAnswer b ≡ Done gives Readable b, and the other way round
 --   length-message, below-message  a message has its plan's length, and each of its bytes is below 256
---   message-field, field-below     a field of a message, as it stands in its bits; a field of w bits is below 2 ^ w
+--   message-field          a field of a message, as it stands in its bits
 --   Reads b s, result-in           reading b succeeds and gives s; which is the sketch that stands in b
 --   read-message           the message of a well-formed sketch is read, as that sketch
 --   message-read           what is read is well-formed, and the bytes that were read are its message
@@ -13,7 +13,7 @@
 --
 -- Assumes nothing.
 use mathlib.Core.Path.{_≡_, refl, sym, ap, ap₂, subst, _∙_}
-use mathlib.Core.Bool.{Bool, true, false, cond, not, _||_}
+use mathlib.Core.Bool.{Bool, false, cond, not, _||_}
 use mathlib.Core.Logic.{⊎-elim}
 use mathlib.Core.List.{List, [], _∷_, _++_, map}
 use Prim.Native.Nat.{ℕ, zero, suc, _+_, _*_, _-_, _%_, _^_, _≤_, _<_}
@@ -37,7 +37,7 @@ use Rattle.rules.specs.declared.Refusal.{Refusal}
 use Rattle.rules.specs.declared.Refusal.the-variants.{WrongLength, UnknownVersion, LargeSize, BadValue, PaddingSet}
 use Rattle.rules.specs.declared.Answer.{Answer}
 use Rattle.rules.specs.declared.Answer.the-variants.{Done}
-use Rattle.message.specs.Packing.{Below, below-append, below-drop, padded, padded-self, padded-part, padded-again, bits-below, number-self, number-below, number-none, bits-number, all-length, all-below, all-number, blocks, all-blocks, bytes-length, bytes-below, all-bytes, bytes-all, field-bytes}
+use Rattle.message.specs.Packing.{Below, below-append, below-drop, padded, padded-self, padded-part, padded-again, bits-below, number-self, number-none, bits-number, all-length, all-below, all-number, blocks, all-blocks, bytes-length, bytes-below, all-bytes, bytes-all, field-bytes, field-below}
 
 -- "the first m are 1 to 65,536"
 abbrev pub GoodValue : ℕ → Type 0
@@ -218,10 +218,6 @@ unfolding tabulate
 take-tabulate zero n f h = refl
 take-tabulate (suc m) zero f h = absurd (omega arith)
 take-tabulate (suc m) (suc n) f h = ap (λ l. f 0 ∷ l) (take-tabulate m n (λ i. f (suc i)) (omega arith))
-
-pub field-below : (b : List ℕ) (at w : ℕ) → fieldAt b at w < 2 ^ w
-unfolding fieldAt
-field-below b at w = number-below w (drop at (bitsOfAll 8 b)) (below-drop 2 at (bitsOfAll 8 b) (all-below 8 b))
 
 -- the values that stand in a message are the numbers of its value bits
 values-blocks : (b : List ℕ) → take (messageSamples b) (sketchIn b .values) ≡ blocks valueWidth (messageSamples b) (drop (valueAt 0) (bitsOfAll 8 b))

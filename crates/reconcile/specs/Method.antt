@@ -1,7 +1,7 @@
 -- Why the method finds a difference wherever there is one: if theirs and ours are a difference then the linear system has a solution,
 -- and every solution, divided by the greatest common divisor, has theirs and ours for its roots.
 --
---   degree-P, degree-Q     (m + d) / 2 and (m − d) / 2, each rounded down, of m, n and the count of home
+--   degreeOf m n h         (m + d) / 2, rounded down, for the gap d of n and h; (m − d) / 2 is degreeOf m h n
 --   degrees                what the two degrees are to the counts of a difference
 --   rowAt                  the equation at a sample point
 --   solvable               a difference makes the system solvable
@@ -33,33 +33,32 @@ use Rattle.rules.specs.Differences.{Difference}
 use Rattle.residue.specs.Field.{Fp, 𝓕, res}
 use Rattle.reconcile.specs.Gap.{gap-eq}
 use Rattle.reconcile.specs.InField.{sampleAt, Good, keys-small, mem-res, res-mem, distinct-res, samples-of, difference-fits}
+
 open Field 𝓕 using (ring as 𝓡, one-ne-zero)
 open CRing 𝓡 using (mul, zero, one)
 open CRing (series 𝓡) using (mul as mulˢ)
 
 -- "the degrees are (m + d) / 2 and (m − d) / 2, each rounded down, after it is known that d lies in −m to m"
-abbrev pub degree-P : (m n h : ℕ) → ℕ
-degree-P m n h = (m + n - h) / 2
-
-abbrev pub degree-Q : (m n h : ℕ) → ℕ
-degree-Q m n h = (m + h - n) / 2
+-- with the two sizes the other way round d changes its sign
+abbrev pub degreeOf : (m n h : ℕ) → ℕ
+degreeOf m n h = (m + n - h) / 2
 
 -- the counts of a difference, t and o: by as much as t is below the one degree, o is below the other
 pub record Degrees (m n h t o : ℕ) : Type 0 where
   pub spare : ℕ
-  pub theirs : degree-P m n h ≡ spare + t
-  pub ours : degree-Q m n h ≡ spare + o
-  pub fit : degree-P m n h + o ≤ m
+  pub theirs : degreeOf m n h ≡ spare + t
+  pub ours : degreeOf m h n ≡ spare + o
+  pub fit : degreeOf m n h + o ≤ m
 
 pub degrees : (m n h t o : ℕ) → h ≤ n + m → n ≤ h + m → t + h ≡ n + o → t + o ≤ m → Degrees m n h t o
-degrees m n h t o low high gap bound = record { spare = degree-P m n h - t; theirs = omega arith; ours = omega arith; fit = omega arith }
+degrees m n h t o low high gap bound = record { spare = degreeOf m n h - t; theirs = omega arith; ours = omega arith; fit = omega arith }
 
 module _ (m n : ℕ) (v home : List ℕ) (le : m ≤ mostSamples) (good : Good m v) (keys : Keys home) (low : length home ≤ n + m) (high : n ≤ length home + m) where
   abbrev dP : ℕ
-  dP = degree-P m n (length home)
+  dP = degreeOf m n (length home)
 
   abbrev dQ : ℕ
-  dQ = degree-Q m n (length home)
+  dQ = degreeOf m (length home) n
 
   abbrev pub rowAt : ℕ → ℕ → Fp
   rowAt i = row 𝓡 dP dQ (sampleAt i) (prod 𝓡 (map res home) (sampleAt i)) (res (getD v i 0))
@@ -99,13 +98,10 @@ module _ (m n : ℕ) (v home : List ℕ) (le : m ≤ mostSamples) (good : Good m
         w = pow 𝓡 (sampleAt i) (sizes .spare)
 
     pub solvable : (E : ℕ → ℕ → Fp) → ((i j : ℕ) → i < m → j ≤ dP + dQ → E i j ≡ rowAt i j) → (x : ℕ → Fp) × Meets 𝓡 (dP + dQ) m E x
-    solvable E rows = (
-      x₀,
-      λ i l.
-          dot-ext 𝓡 (dP + dQ) (E i) x₀ (rowAt i) x₀ (λ j h. rows i j l (omega arith)) (λ j h. refl)
-          ∙ agree-meets 𝓡 dP dQ x₀ P₀ Q₀ (lowers-hold 𝓡 dP dQ P₀ Q₀ monic-P₀ monic-Q₀) (sampleAt i) (prod 𝓡 (map res home) (sampleAt i)) (res (getD v i 0)) (agrees₀ i l)
-          ∙ sym (rows i (dP + dQ) l (omega arith)),
-    )
+    solvable E rows = (x₀, λ i l.
+        dot-ext 𝓡 (dP + dQ) (E i) x₀ (rowAt i) x₀ (λ j h. rows i j l (omega arith)) (λ j h. refl)
+        ∙ agree-meets 𝓡 dP dQ x₀ P₀ Q₀ (lowers-hold 𝓡 dP dQ P₀ Q₀ monic-P₀ monic-Q₀) (sampleAt i) (prod 𝓡 (map res home) (sampleAt i)) (res (getD v i 0)) (agrees₀ i l)
+        ∙ sym (rows i (dP + dQ) l (omega arith)))
       where
         x₀ : ℕ → Fp
         x₀ = lowers 𝓡 dP P₀ Q₀

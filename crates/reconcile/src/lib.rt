@@ -1,1 +1,133 @@
-// Under construction.
+// Reconciling: from a peer's sketch and the home list, exactly the difference, or an honest refusal. docs/METHOD.md tells the method and the argument.
+use rules::{Answer, Refusal, Sketch};
+ghost use mathlib.Core.Path.{_≡_};
+ghost use Prim.Native.Nat.{_+_, _-_, _≤_};
+ghost use lib.ListN.{length};
+ghost use Rattle.algebra.specs.Polynomial.{Monic};
+ghost use Rattle.rules.specs.Numbers.{mostSamples, listLimit, LegalList};
+ghost use Rattle.rules.specs.Calls.{reconcileTests};
+ghost use Rattle.rules.specs.Reconciling.{Reconciles};
+ghost use Rattle.polynomial.specs.Coefficients.{𝓡, poly};
+ghost use Rattle.reconcile.specs.InField.{Good};
+ghost use Rattle.reconcile.specs.Search.{Judged, Sifted, Searched};
+
+mod area; // copying
+mod gap; // the size gap and the two degrees
+mod system; // the two polynomials, by elimination
+mod reduction; // without their greatest common divisor
+mod verdict; // the last check
+
+// The answer, and how many keys stand in each buffer.
+pub struct Reconciled {
+    pub answer: Answer,
+    pub theirs: usize,
+    pub ours: usize,
+}
+
+// Whether a difference was found, and how many keys it has on each side.
+struct Counts {
+    found: bool,
+    theirs: usize,
+    ours: usize,
+}
+
+// The most coefficients of a polynomial here: 64 and the top.
+const ROOM: usize = 65;
+
+// The roots of a divided pair, ours among home's keys, and the last check.
+fn judge(m: usize, b: &[u32], v: &[u32], home: &[u32], top: &[u32], bottom: &[u32], theirs: &mut [u32], ours: &mut [u32]) -> Counts
+    requires { ⌜ (m ≤ mostSamples) × (m ≤ length (now b)) × (m ≤ length (now v)) × LegalList (now home) × Monic 𝓡 (length (now top) - 1) (poly (now top)) × Monic 𝓡 (length (now bottom) - 1) (poly (now bottom)) × (length (now top) ≤ mostSamples + 1) × (length (now bottom) ≤ mostSamples + 1) × (length (now theirs) ≡ mostSamples) × (length (now ours) ≡ mostSamples) ⌝ }
+    ensures { λ r. ⌜ Judged m (now (b .entry)) (now (v .entry)) (now (home .entry)) (now (top .entry)) (now (bottom .entry)) (now (theirs .exit)) (now (ours .exit)) (r .found) (r .theirs) (r .ours) ⌝ }
+{
+    let t = polynomial::roots(top, theirs);
+    let o = polynomial::roots_among(bottom, home, ours);
+    let p = top.len() - 1;
+    let q = bottom.len() - 1;
+    let found = verdict::passes(m, b, v, home, &theirs[..t], &ours[..o], p, q);
+    Counts { found, theirs: t, ours: o }
+}
+
+// The pair without its common divisor, judged.
+fn sift(m: usize, b: &[u32], v: &[u32], home: &[u32], p: &mut [u32], q: &mut [u32], theirs: &mut [u32], ours: &mut [u32]) -> Counts
+    requires { ⌜ (m ≤ mostSamples) × (m ≤ length (now b)) × (m ≤ length (now v)) × LegalList (now home) × Monic 𝓡 (length (now p) - 1) (poly (now p)) × Monic 𝓡 (length (now q) - 1) (poly (now q)) × (length (now p) ≤ mostSamples + 1) × (length (now q) ≤ mostSamples + 1) × (length (now theirs) ≡ mostSamples) × (length (now ours) ≡ mostSamples) ⌝ }
+    ensures { λ r. ⌜ Sifted m (now (b .entry)) (now (v .entry)) (now (home .entry)) (now (p .entry)) (now (q .entry)) (now (theirs .exit)) (now (ours .exit)) (r .found) (r .theirs) (r .ours) ⌝ }
+{
+    let mut top = [0u32; ROOM];
+    let mut bottom = [0u32; ROOM];
+    let p_all = p.len();
+    let q_all = q.len();
+    let k = reduction::divided(p, q, &mut top[..p_all], &mut bottom[..q_all]);
+    let p_end = p_all - k;
+    let q_end = q_all - k;
+    judge(m, b, v, home, &top[..p_end], &bottom[..q_end], theirs, ours)
+}
+
+// The difference of home and a sketch of `size` keys with values v, in the first numbers of theirs and ours, or that there is none.
+fn search(m: usize, size: u32, v: &[u32], home: &[u32], theirs: &mut [u32], ours: &mut [u32]) -> Counts
+    requires { ⌜ (m ≤ mostSamples) × (size ≤ listLimit) × (m ≤ length (now v)) × Good m (now v) × LegalList (now home) × (length (now home) ≤ size + m) × (size ≤ length (now home) + m) × (length (now theirs) ≡ mostSamples) × (length (now ours) ≡ mostSamples) ⌝ }
+    ensures { λ r. ⌜ Searched m size (now (v .entry)) (now (home .entry)) (now (theirs .exit)) (now (ours .exit)) (r .found) (r .theirs) (r .ours) ⌝ }
+{
+    let b = sketch::values(m, home);
+    let count = home.len();
+    let n = size as usize;
+    let p_all = gap::degree(m, n, count) + 1;
+    let q_all = gap::degree(m, count, n) + 1;
+    let mut p = [0u32; ROOM];
+    let mut q = [0u32; ROOM];
+    if !system::interpolate(m, &b, v, &mut p[..p_all], &mut q[..q_all]) {
+        return Counts { found: false, theirs: 0, ours: 0 };
+    }
+    sift(m, &b, v, home, &mut p[..p_all], &mut q[..q_all], theirs, ours)
+}
+
+// The refusals that come before a difference is looked for, in their order.
+fn tests(s: Sketch, home: &[u32], theirs: usize, ours: usize) -> Answer
+    ensures { λ r. ⌜ r ≡ reconcileTests s (now (home .entry)) theirs ours ⌝ }
+{
+    if !sketch::well_formed(s) {
+        return Answer::Refused(Refusal::MalformedSketch);
+    }
+    let list = sketch::list_answer(home);
+    if let Answer::Refused(_) = list {
+        return list;
+    }
+    let plan = s.plan;
+    let n = s.size as usize;
+    let m = sketch::samples(plan);
+    if theirs < m {
+        return Answer::Refused(Refusal::ShortBuffer(0));
+    }
+    if ours < m {
+        return Answer::Refused(Refusal::ShortBuffer(1));
+    }
+    if gap::too_large(m, n, home.len()) {
+        return Answer::Refused(Refusal::LargeGap);
+    }
+    Answer::Done
+}
+
+// What each side lacks: the keys that are new at home in the first entries of theirs, those that the peer lacks in those of ours. Both lists are found in
+// arrays of this call and copied once, on success: a refusal leaves both buffers as they were.
+pub fn reconcile(s: Sketch, home: &[u32], theirs: &mut [u32], ours: &mut [u32]) -> Reconciled
+    ensures { λ r. ⌜ Reconciles s (now (home .entry)) (now (theirs .entry)) (now (ours .entry)) (record { answer = r .answer; theirs-count = r .theirs; ours-count = r .ours; theirs = now (theirs .exit); ours = now (ours .exit) }) ⌝ }
+{
+    let answer = tests(s, home, theirs.len(), ours.len());
+    if let Answer::Refused(_) = answer {
+        return Reconciled { answer, theirs: 0, ours: 0 };
+    }
+    let plan = s.plan;
+    let size = s.size;
+    let m = sketch::samples(plan);
+    let v = s.values;
+    let mut new = [0u32; 64];
+    let mut held = [0u32; 64];
+    let counts = search(m, size, &v, home, &mut new, &mut held);
+    if !counts.found {
+        return Reconciled { answer: Answer::Refused(Refusal::NoDifference), theirs: 0, ours: 0 };
+    }
+    let t = counts.theirs;
+    let o = counts.ours;
+    area::copy(theirs, &new[..t]);
+    area::copy(ours, &held[..o]);
+    Reconciled { answer: Answer::Done, theirs: t, ours: o }
+}

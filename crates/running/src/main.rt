@@ -5,9 +5,11 @@ use residue::Key;
 use rules::Sketch;
 use rules::Sketched;
 ghost use mathlib.Core.Path.{_≡_};
-ghost use mathlib.Core.Bool.{true};
+ghost use mathlib.Core.Bool.{true, cond};
+ghost use mathlib.Core.List.{[]};
 ghost use Prim.Native.Nat.{ℕ, _≤_, _<_};
 ghost use lib.ListN.{length};
+ghost use Rattle.rules.specs.Calls.{sketchResult, addResult, removeResult};
 ghost use Rattle.running.specs.Same.{Same};
 
 // Key j of the 64 that go in and out lies at j times this, so that the keys reach from 0 to near the largest.
@@ -82,7 +84,9 @@ fn agreement(plan: u32, inside: &[bool], running: Sketched) -> u32
 }
 
 // A key that is in goes out, another goes in.
-fn update(s: Sketch, key: Key, inside: bool) -> Sketched {
+fn update(s: Sketch, key: Key, inside: bool) -> Sketched
+    ensures { λ r. ⌜ r .sketch ≡ cond inside (removeResult s (key .0)) (addResult s (key .0)) ⌝ }
+{
     if inside {
         sketch::remove_from(s, key)
     } else {
@@ -113,7 +117,9 @@ fn run(plan: u32, updates: u32) -> u32
 }
 
 // The sketch of the empty list.
-fn empty(plan: u32) -> Sketch {
+fn empty(plan: u32) -> Sketch
+    ensures { λ r. ⌜ r ≡ sketchResult plan [] ⌝ }
+{
     let none = [0u32; 1];
     let r = sketch::sketch(plan, &none[..0]);
     r.sketch

@@ -1,1 +1,5 @@
+-- What owning a sketch says of its array: Sized. The functions over a `&mut Sketch`, which are walked by hand: Contracts, Thin, Lender.
 pub mod Sized
+pub mod Contracts
+pub mod Thin
+pub mod Lender

@@ -1,5 +1,6 @@
 -- Slots that are filled one after the other, as a loop does it.
 --
+--   slot-low, slot-high    what stands in a slot below m, and from m on
 --   slots-self             none is filled: the list as it was
 --   slots-zero             none is filled, of slots that are 0
 --   slots-more             one more is filled

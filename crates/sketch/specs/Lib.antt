@@ -1,6 +1,6 @@
--- What the contracts cite beside document 01: Factors. What is shown of sketches: Filled, Values, Updates, Proper, Formed, Running.
+-- What the contracts cite beside document 01: Changes, Updates. What is shown of sketches: Filled, Values, Proper, Formed, Running.
 pub mod Filled
-pub mod Factors
+pub mod Changes
 pub mod Values
 pub mod Updates
 pub mod Proper

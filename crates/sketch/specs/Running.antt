@@ -1,7 +1,7 @@
 -- The running sketch is the sketch of what was added and not removed.
 --
---   added-formed, removed-formed   an update that is not refused leaves a well-formed sketch
---   remove-added, add-removed      removing undoes adding, and the other way round
+--   updated-formed         an update that is accepted leaves a well-formed sketch: added-formed, removed-formed
+--   update-undone          the other change undoes it: remove-added, add-removed
 --   add-one-more           adding a key to a sketch of keys gives the sketch of the keys and that one
 --   remove-last            removing it gives the sketch back
 --   sketch-perm            the order of the keys does not matter
@@ -18,23 +18,26 @@ use lib.ListN.{length, getD, length-append}
 use Rattle.algebra.specs.Sets.{_∈_}
 use Rattle.algebra.specs.Arithmetic.{mulOf, mulOf-assoc, mulOf-comm, productOf-perm}
 use Rattle.rules.specs.Numbers.{modulus, point, LegalKey, mostSamples, listLimit, plans, samples, LegalList}
-use Rattle.rules.specs.Sketches.{sketchOf, WellFormed, withKey, withoutKey, value}
+use Rattle.rules.specs.Sketches.{sketchOf, WellFormed, value}
 use Rattle.rules.specs.Calls.{addResult, removeResult}
 use Rattle.rules.specs.declared.Sketch.{Sketch}
 use Rattle.sketch.specs.Filled.{slot-low, slot-high, slots-ext, slots-same}
-use Rattle.sketch.specs.Factors.{factorOf, multiplied, changedBy}
+use Rattle.sketch.specs.Changes.{factorOf, multiplied, MayChange, sizeAfter, changedBy}
 use Rattle.sketch.specs.Values.{values-snoc}
-use Rattle.sketch.specs.Updates.{adds, removes}
+use Rattle.sketch.specs.Updates.{updateResult, Accepted, changes}
 use Rattle.sketch.specs.Proper.{factors-undo}
 use Rattle.sketch.specs.Formed.{sketch-formed, changed-formed}
 use Rattle.sketch.specs.declared.Change.{Change}
 use Rattle.sketch.specs.declared.Change.the-variants.{Add, Remove}
 
+pub updated-formed : (change : Change) (s : Sketch) (k : ℕ) → Accepted change s k → WellFormed (updateResult change s k)
+updated-formed change s k a = rw (changes change s k a) (changed-formed change s k a)
+
 pub added-formed : (s : Sketch) (k : ℕ) → WellFormed s → LegalKey k → s .size < listLimit → WellFormed (addResult s k)
-added-formed s k w l h = rw (adds s k w l h) (changed-formed Add s k (s .size + 1) w l (omega arith))
+added-formed s k w l h = updated-formed Add s k (record { sketch = w; key = l; size = h })
 
 pub removed-formed : (s : Sketch) (k : ℕ) → WellFormed s → LegalKey k → 0 < s .size → WellFormed (removeResult s k)
-removed-formed s k w l h = rw (removes s k w l h) (changed-formed Remove s k (s .size - 1) w l (omega (arith, w .size)))
+removed-formed s k w l h = updated-formed Remove s k (record { sketch = w; key = l; size = h })
 
 -- values that are multiplied by factors, and then by factors that undo those, are as they were
 undone : (m : ℕ) (f g : ℕ → ℕ) (l : List ℕ) → length l ≡ mostSamples → ((i : ℕ) → i < m → getD l i 0 < modulus) → ((i : ℕ) → i < mostSamples → mulOf modulus (f i) (g i) ≡ 1) → multiplied m g (multiplied m f l) ≡ l
@@ -54,33 +57,46 @@ undone m f g l count below undo =
 abbrev resized : Sketch → ℕ → List ℕ → Sketch
 resized s size l = record { plan = s .plan; size = size; values = l }
 
--- a change and the one that undoes it, with the size that was
-changed-back : (change back : Change) (s : Sketch) (k there size : ℕ) → WellFormed s → ((i : ℕ) → i < mostSamples → mulOf modulus (factorOf change k i) (factorOf back k i) ≡ 1) → size ≡ s .size → changedBy back (changedBy change s k there) k size ≡ s
-changed-back change back s k there size w undo e = ap₂ (resized s) e (undone (samples (s .plan)) (factorOf change k) (factorOf back k) (s .values) (w .count) (w .high) undo)
+-- the change that undoes a change: its factors, its size, and that it is accepted
+abbrev undoing : Change → Change
+undoing Add = Remove
+undoing Remove = Add
+
+factors-cancel : (change : Change) (k i : ℕ) → LegalKey k → i < mostSamples → mulOf modulus (factorOf change k i) (factorOf (undoing change) k i) ≡ 1
+factors-cancel Add k i l b = factors-undo k i l b
+factors-cancel Remove k i l b = mulOf-comm modulus (factorOf Remove k i) (factorOf Add k i) ∙ factors-undo k i l b
+
+size-back : (change : Change) (size : ℕ) → MayChange change size → sizeAfter (undoing change) (sizeAfter change size) ≡ size
+size-back Add size h = omega arith
+size-back Remove size h = omega arith
+
+may-undo : (change : Change) (size : ℕ) → size ≤ listLimit → MayChange change size → MayChange (undoing change) (sizeAfter change size)
+may-undo Add size b h = omega arith
+may-undo Remove size b h = omega arith
+
+changed-back : (change : Change) (s : Sketch) (k : ℕ) → Accepted change s k → changedBy (undoing change) (changedBy change s k) k ≡ s
+changed-back change s k a =
+    ap₂ (resized s) (size-back change (s .size) (a .size))
+    (undone (samples (s .plan)) (factorOf change k) (factorOf (undoing change) k) (s .values) (a .sketch .count) (a .sketch .high) (λ i b. factors-cancel change k i (a .key) b))
+
+pub update-undone : (change : Change) (s : Sketch) (k : ℕ) → Accepted change s k → updateResult (undoing change) (updateResult change s k) k ≡ s
+update-undone change s k a =
+    ap (λ (t : Sketch). updateResult (undoing change) t k) (changes change s k a)
+    ∙ changes (undoing change) (changedBy change s k) k (record { sketch = changed-formed change s k a; key = a .key; size = may-undo change (s .size) (a .sketch .size) (a .size) })
+    ∙ changed-back change s k a
 
 pub remove-added : (s : Sketch) (k : ℕ) → WellFormed s → LegalKey k → s .size < listLimit → removeResult (addResult s k) k ≡ s
-remove-added s k w l h =
-    let grown : s .size + 1 ≤ listLimit = omega arith in
-    let some : 0 < s .size + 1 = omega arith in
-    let size : s .size + 1 - 1 ≡ s .size = omega arith in
-    ap (λ (t : Sketch). removeResult t k) (adds s k w l h)
-    ∙ removes (withKey s k) k (changed-formed Add s k (s .size + 1) w l grown) l some
-    ∙ changed-back Add Remove s k (s .size + 1) (s .size + 1 - 1) w (λ i b. factors-undo k i l b) size
+remove-added s k w l h = update-undone Add s k (record { sketch = w; key = l; size = h })
 
 pub add-removed : (s : Sketch) (k : ℕ) → WellFormed s → LegalKey k → 0 < s .size → addResult (removeResult s k) k ≡ s
-add-removed s k w l h =
-    let fewer : s .size - 1 < listLimit = omega (arith, w .size) in
-    let size : s .size - 1 + 1 ≡ s .size = omega arith in
-    ap (λ (t : Sketch). addResult t k) (removes s k w l h)
-    ∙ adds (withoutKey s k) k (changed-formed Remove s k (s .size - 1) w l (omega arith)) l fewer
-    ∙ changed-back Remove Add s k (s .size - 1) (s .size - 1 + 1) w (λ i b. mulOf-comm modulus (factorOf Remove k i) (factorOf Add k i) ∙ factors-undo k i l b) size
+add-removed s k w l h = update-undone Remove s k (record { sketch = w; key = l; size = h })
 
 abbrev kept : ℕ → ℕ → List ℕ → Sketch
 kept plan size l = record { plan = plan; size = size; values = l }
 
 pub add-one-more : (plan : ℕ) (ks : List ℕ) (k : ℕ) → plan < plans → ((j : ℕ) → j ∈ ks → LegalKey j) → LegalKey k → length ks < listLimit → addResult (sketchOf plan ks) k ≡ sketchOf plan (ks ++ k ∷ [])
 add-one-more plan ks k p legal l h =
-    adds (sketchOf plan ks) k (sketch-formed plan ks p legal (omega arith)) l h
+    changes Add (sketchOf plan ks) k (record { sketch = sketch-formed plan ks p legal (omega arith); key = l; size = h })
     ∙ ap₂ (kept plan) (sym (length-append ks (k ∷ []))) (values-snoc (samples plan) ks k)
 
 pub remove-last : (plan : ℕ) (ks : List ℕ) (k : ℕ) → plan < plans → ((j : ℕ) → j ∈ ks → LegalKey j) → LegalKey k → length ks < listLimit → removeResult (sketchOf plan (ks ++ k ∷ [])) k ≡ sketchOf plan ks

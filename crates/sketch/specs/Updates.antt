@@ -1,13 +1,13 @@
 -- What adding and removing a key answer, told together: the tests that they share, and the last, which differs.
 --
---   updateAnswer change    addAnswer, or removeAnswer
+--   updateAnswer, updateResult     of a change: addAnswer and addResult, or removeAnswer and removeResult
 --   lastTest change        "14", or "15"
 --   malformed, large, passed       what an update answers, by the first test that holds
 --   full, room, empty, some        what the last test answers, by the size
---   accepted               an update that succeeds is of a well-formed sketch and a legal key, and passes the last test
---   has-room, has-some     what passing the last test tells of the size
---   adds, removes          where no test holds the key is added, and removed
---   settled                a right answer brings the right result
+--   Accepted change s k    a well-formed sketch, a legal key, and a size that allows the change
+--   accepted, updates      an update succeeds exactly where it is accepted
+--   gives, changes         what comes with an answer; where it is accepted, the sketch after the change
+--   settled                a right answer brings the right result, of any call
 --
 -- Assumes nothing.
 use mathlib.Core.Path.{_≡_, refl, sym, ap, _∙_}
@@ -28,12 +28,20 @@ use Rattle.rules.specs.declared.Sketch.{Sketch}
 use Rattle.rules.specs.declared.Answer.{Answer}
 use Rattle.rules.specs.declared.Answer.the-variants.{Done, Refused}
 use Rattle.rules.specs.declared.Refusal.the-variants.{LargeKey, MalformedSketch, FullSketch, EmptySketch}
+use Rattle.sketch.specs.Changes.{MayChange, changedBy}
 use Rattle.sketch.specs.declared.Change.{Change}
 use Rattle.sketch.specs.declared.Change.the-variants.{Add, Remove}
 
 abbrev pub updateAnswer : Change → Sketch → ℕ → Answer
 updateAnswer Add s k = addAnswer s k
 updateAnswer Remove s k = removeAnswer s k
+
+abbrev pub updateResult : Change → Sketch → ℕ → Sketch
+updateResult Add s k = addResult s k
+updateResult Remove s k = removeResult s k
+
+pub settled : {A : Type 0} (a b : Answer) (x y : A) → a ≡ b → (a ≡ b) × (given a x y ≡ given b x y)
+settled a b x y e = (e, ap (λ (z : Answer). given z x y) e)
 
 abbrev pub lastTest : Change → Sketch → Answer
 lastTest Add s = when (leb listLimit (s .size)) FullSketch
@@ -69,16 +77,18 @@ empty s h = rw (eq-eqb (s .size) 0 h)
 pub some : (s : Sketch) → (s .size ≡ 0 → ⊥) → lastTest Remove s ≡ Done
 some s h = rw (ne-eqb (s .size) 0 h)
 
-pub has-room : (s : Sketch) → lastTest Add s ≡ Done → s .size < listLimit
-has-room s e = leb-false listLimit (s .size) (when-done (leb listLimit (s .size)) FullSketch e)
+pub may-change : (change : Change) (s : Sketch) → lastTest change s ≡ Done → MayChange change (s .size)
+may-change Add s e = leb-false listLimit (s .size) (when-done (leb listLimit (s .size)) FullSketch e)
+may-change Remove s e = ⊎-elim (λ z. absurd (eqb-false (s .size) 0 (when-done (eqb (s .size) 0) EmptySketch e) z)) (λ l. l) (eq-zero-or-pos (s .size))
 
-pub has-some : (s : Sketch) → lastTest Remove s ≡ Done → 0 < s .size
-has-some s e = ⊎-elim (λ z. absurd (eqb-false (s .size) 0 (when-done (eqb (s .size) 0) EmptySketch e) z)) (λ l. l) (eq-zero-or-pos (s .size))
+may-pass : (change : Change) (s : Sketch) → MayChange change (s .size) → lastTest change s ≡ Done
+may-pass Add s h = room s h
+may-pass Remove s h = some s (λ e. omega arith)
 
 pub record Accepted (change : Change) (s : Sketch) (k : ℕ) : Type 0 where
   pub sketch : WellFormed s
   pub key : LegalKey k
-  pub last : lastTest change s ≡ Done
+  pub size : MayChange change (s .size)
 
 pub accepted : (change : Change) (s : Sketch) (k : ℕ) → updateAnswer change s k ≡ Done → Accepted change s k
 accepted change s k e =
@@ -87,14 +97,16 @@ accepted change s k e =
     record {
       sketch = formed s (not-false (wellFormed s) (when-done (not (wellFormed s)) MalformedSketch (p .0)));
       key = ltb-false keyLimit k (when-done (ltb keyLimit k) (LargeKey 0) (q .0));
-      last = q .1;
+      size = may-change change s (q .1);
     }
 
-pub adds : (s : Sketch) (k : ℕ) → WellFormed s → LegalKey k → s .size < listLimit → addResult s k ≡ withKey s k
-adds s k w l h = ap (λ (z : Answer). given z (withKey s k) s) (sym (passed Add s k (tested s w) l) ∙ room s h)
+pub updates : (change : Change) (s : Sketch) (k : ℕ) → Accepted change s k → updateAnswer change s k ≡ Done
+updates change s k a = sym (passed change s k (tested s (a .sketch)) (a .key)) ∙ may-pass change s (a .size)
 
-pub removes : (s : Sketch) (k : ℕ) → WellFormed s → LegalKey k → 0 < s .size → removeResult s k ≡ withoutKey s k
-removes s k w l h = ap (λ (z : Answer). given z (withoutKey s k) s) (sym (passed Remove s k (tested s w) l) ∙ some s (λ e. omega arith))
+-- what comes with an answer
+pub gives : (change : Change) (s : Sketch) (k : ℕ) (a : Answer) → a ≡ updateAnswer change s k → given a (changedBy change s k) s ≡ updateResult change s k
+gives Add s k a e = settled a (addAnswer s k) (withKey s k) s e .1
+gives Remove s k a e = settled a (removeAnswer s k) (withoutKey s k) s e .1
 
-pub settled : {A : Type 0} (a b : Answer) (x y : A) → a ≡ b → (a ≡ b) × (given a x y ≡ given b x y)
-settled a b x y e = (e, ap (λ (z : Answer). given z x y) e)
+pub changes : (change : Change) (s : Sketch) (k : ℕ) → Accepted change s k → updateResult change s k ≡ changedBy change s k
+changes change s k a = sym (gives change s k Done (sym (updates change s k a)))

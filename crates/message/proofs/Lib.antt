@@ -1,0 +1,10 @@
+pub mod Gathered
+pub mod Filled
+pub mod Answers
+pub mod Values
+pub mod Bodies
+pub mod Order
+pub mod Writes
+pub mod Lent
+pub mod Started
+pub mod Apart
