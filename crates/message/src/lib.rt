@@ -168,7 +168,7 @@ pub struct Header {
 // The values, or what is wrong with the first bad one; then no values.
 pub struct Body {
     pub answer: Answer,
-    pub values: [u32; 64],
+    pub values: [u32; rules::MOST_SAMPLES],
 }
 
 // No sketch has such a value.
@@ -187,14 +187,14 @@ fn values_at(message: &[u8], at: usize, m: usize) -> Body
     requires { ⌜ (at ≡ valueAt 0) × (m ≤ mostSamples) ⌝ }
     ensures { λ r. ⌜ ValuesOf (now (message .entry)) m r ⌝ }
 {
-    let mut values = [0u32; 64];
+    let mut values = [0u32; rules::MOST_SAMPLES];
     let mut i = 0;
     while i < m {
         let value = field_at(message, at + VALUE_WIDTH * i, VALUE_WIDTH);
         if bad_value(value) {
             return Body {
                 answer: Answer::Refused(Refusal::BadValue(i as u32)),
-                values: [0u32; 64],
+                values: [0u32; rules::MOST_SAMPLES],
             };
         }
         values[i] = value;
@@ -228,7 +228,7 @@ fn body_at(message: &[u8], at: usize, m: usize) -> Body
             } else {
                 Body {
                     answer: Answer::Refused(Refusal::PaddingSet),
-                    values: [0u32; 64],
+                    values: [0u32; rules::MOST_SAMPLES],
                 }
             }
         }
@@ -302,7 +302,7 @@ fn refused(refusal: Refusal) -> Sketched
         sketch: Sketch {
             plan: 0,
             size: 0,
-            values: [0u32; 64],
+            values: [0u32; rules::MOST_SAMPLES],
         },
     }
 }
@@ -324,7 +324,7 @@ pub fn read(message: &[u8]) -> Sketched
         return refused(Refusal::WrongLength);
     }
     let size = header.size;
-    if sketch::LIST_LIMIT < size {
+    if rules::LIST_LIMIT < size {
         return refused(Refusal::LargeSize);
     }
     let body = read_body(message, m);

@@ -32,7 +32,7 @@ struct Counts {
 }
 
 // The most coefficients of a polynomial here: 64 and the top.
-const ROOM: usize = 65;
+const ROOM: usize = rules::MOST_SAMPLES + 1;
 
 // The roots of a divided pair, ours among home's keys, and the last check.
 fn judge(m: usize, b: &[u32], v: &[u32], home: &[u32], top: &[u32], bottom: &[u32], theirs: &mut [u32], ours: &mut [u32]) -> Counts
@@ -119,8 +119,8 @@ pub fn reconcile(s: Sketch, home: &[u32], theirs: &mut [u32], ours: &mut [u32]) 
     let size = s.size;
     let m = sketch::samples(plan);
     let v = s.values;
-    let mut new = [0u32; 64];
-    let mut held = [0u32; 64];
+    let mut new = [0u32; rules::MOST_SAMPLES];
+    let mut held = [0u32; rules::MOST_SAMPLES];
     let counts = search(m, size, &v, home, &mut new, &mut held);
     if !counts.found {
         return Reconciled { answer: Answer::Refused(Refusal::NoDifference), theirs: 0, ours: 0 };

@@ -3,11 +3,24 @@
 ghost use mathlib.Core.Path.{_≡_};
 ghost use Rattle.rules.specs.Refusals.{numberOf, placeOf};
 
+// The numbers of document 01 that code tests against, each of which stands here alone, as it does in specs/Numbers for the proofs.
+pub const KEY_LIMIT: u32 = 65472;
+
+pub const LIST_LIMIT: u32 = 16384;
+
+pub const MOST_SAMPLES: usize = 64;
+
+pub const PLANS: u32 = 16;
+
+pub const USUAL_REQUEST: u32 = 255;
+
+pub const USUAL_PLAN: u8 = 8;
+
 // A plan code, the size of the set, and its values at the sample points: the first as many as the plan has samples, the others 0.
 pub struct Sketch {
     pub plan: u8,
     pub size: u32,
-    pub values: [u32; 64],
+    pub values: [u32; MOST_SAMPLES],
 }
 
 // Why a call refuses, each with its number in document 01; where it has a place, the variant holds it.
