@@ -9,7 +9,7 @@
 --
 -- Assumes nothing.
 use mathlib.Core.Path.{_≡_, refl, sym, ap, subst, _∙_}
-use mathlib.Core.Bool.{Bool, true, false, _&&_}
+use mathlib.Core.Bool.{Bool, true, _&&_}
 use mathlib.Core.Logic.{inl, inr, ⊎-elim}
 use mathlib.Core.List.{List, [], _∷_, _++_}
 use Prim.Native.Nat.{ℕ, zero, suc, _+_, _-_, _≤_, _<_}
@@ -25,11 +25,10 @@ use Rattle.rules.specs.Tests.{and-true}
 use Rattle.rules.specs.Reconciling.{DifferenceOf, None, Left, After, Reconciles}
 use Rattle.rules.specs.declared.Sketch.{Sketch}
 use Rattle.rules.specs.declared.Refusal.the-variants.{NoDifference}
-use Rattle.rules.specs.declared.Answer.{Answer}
 use Rattle.rules.specs.declared.Answer.the-variants.{Done, Refused}
 use Rattle.rules.specs.Formed.{formed}
 use Rattle.rules.specs.Legal.{legal}
-use Rattle.reconcile.specs.Passing.{Passing, passes-tests}
+use Rattle.reconcile.specs.Passing.{passes-tests}
 use Rattle.promises.specs.Unique.{reconcile-one}
 
 -- sketches of plans 0 and 1, which have one and two samples

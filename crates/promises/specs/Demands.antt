@@ -8,28 +8,25 @@
 --   demand-3-apart         two legal sets, each within m of B, that share a message under one plan are one set
 --
 -- Assumes nothing.
-use mathlib.Core.Path.{_≡_, refl, sym, ap, ap₂, subst, _∙_}
-use mathlib.Core.Bool.{true, false, cond}
-use mathlib.Core.Logic.{_⊎_, inl, inr, ⊎-elim}
-use mathlib.Core.List.{List, [], _∷_, _++_}
-use Prim.Native.Nat.{ℕ, suc, _+_, _-_, _%_, _≤_, _<_}
+use mathlib.Core.Path.{_≡_, sym, ap, subst, _∙_}
+use mathlib.Core.Bool.{cond}
+use mathlib.Core.Logic.{inl, inr}
+use mathlib.Core.List.{List, _++_}
+use Prim.Native.Nat.{ℕ, suc, _+_, _-_, _≤_, _<_}
 use native.Mathlib.Decide.{ℕ-discrete}
-use native.Mathlib.Nat.{mod-eq-of-lt}
 use native.Mathlib.Omega.{arith}
-use borrow.Author.Tests.{lt-ltb, le-ltb}
-use lib.Dec.{ltb, lit<}
+use borrow.Author.Tests.{lt-ltb}
+use lib.Dec.{lit<}
 use lib.ListN.{length, length-append, getD, drop}
-use Rattle.algebra.specs.Sets.{_∈_, _⊆_, Ascending, ascending-distinct, ascending-ext, without, without-mem, mem-without, without-ascending, cover, length-perm, mem?}
-use Rattle.algebra.specs.Arithmetic.{mulOf, mulOf-comm, productOf, productOf-append, productOf-perm, productOf-below}
-use Rattle.rules.specs.Numbers.{modulus, point, mostSamples, plans, samples, Keys, LegalList, LegalKey}
+use Rattle.algebra.specs.Sets.{_∈_, _⊆_, ascending-distinct, ascending-ext, without, without-mem, mem-without, without-ascending, cover, length-perm, mem?}
+use Rattle.algebra.specs.Arithmetic.{mulOf, mulOf-comm, productOf, productOf-append, productOf-perm}
+use Rattle.rules.specs.Numbers.{modulus, point, plans, samples, Keys, LegalList}
 use Rattle.rules.specs.Plans.{samples-most}
 use Rattle.rules.specs.Sketches.{value, sketchOf, WellFormed}
 use Rattle.rules.specs.Formed.{slots-at}
 use Rattle.rules.specs.Messages.{message}
-use Rattle.rules.specs.Differences.{Difference}
-use Rattle.rules.specs.Calls.{readResult, reconcileTests}
-use Rattle.rules.specs.Reconciling.{DifferenceOf, Left, Finds, After, Reconciles}
-use Rattle.rules.specs.declared.Sketch.{Sketch}
+use Rattle.rules.specs.Calls.{readResult}
+use Rattle.rules.specs.Reconciling.{DifferenceOf, Left, After, Reconciles}
 use Rattle.rules.specs.declared.Answer.the-variants.{Done}
 use Rattle.reconcile.specs.Gap.{eq-gap}
 use Rattle.reconcile.specs.Passing.{Passing, passes-tests}

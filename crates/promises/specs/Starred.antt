@@ -8,12 +8,12 @@ use mathlib.Core.Path.{_≡_, refl, sym, ap, ap₂, _∙_}
 use mathlib.Core.Bool.{Bool, true, false, not, _||_}
 use mathlib.Core.Logic.{⊎-elim}
 use mathlib.Core.List.{List, [], _∷_, List·Memᴰ·head, List·Memᴰ·tail, List·Memᴰ·eq-of-singleton, List·Memᴰ·not-nil}
-use Prim.Native.Nat.{ℕ, zero, suc, _+_, _*_, _-_, _%_, _≤_, _<_}
+use Prim.Native.Nat.{ℕ, zero, suc, _+_, _-_, _%_, _≤_, _<_}
 use native.Mathlib.Omega.{arith}
-use borrow.Author.Tests.{eqb-true, eq-eqb, ne-eqb}
+use borrow.Author.Tests.{eqb-true, eq-eqb}
 use lib.Dec.{eqb, lit≤, lit<}
 use lib.ListN.{length, getD}
-use Rattle.algebra.specs.Arithmetic.{mulOf, subOf, productOf}
+use Rattle.algebra.specs.Arithmetic.{mulOf, productOf}
 use Rattle.algebra.specs.Tabulate.{tabulate}
 use Rattle.algebra.specs.Ring.{CRing, sub-eq-zero, add-neg}
 use Rattle.algebra.specs.Field.{Field, mul-eq-zero}
@@ -22,8 +22,7 @@ use Rattle.algebra.specs.Residues.{of-add, of-neg}
 use native.Mathlib.Numerals.{add-one}
 use Rattle.rules.specs.Numbers.{modulus, modulus-prime, keyLimit, point, LegalKey}
 use Rattle.rules.specs.Sketches.{value, wellFormed}
-use Rattle.rules.specs.Messages.{fields, message}
-use Rattle.rules.specs.Calls.{listAnswer, sketchAnswer}
+use Rattle.rules.specs.Calls.{listAnswer}
 use Rattle.rules.specs.Legal.{keys-legal}
 use Rattle.rules.specs.Cases.{case-1, case-2-value, case-2, case-3-value, case-3, case-4-first, case-4-last, case-4-refused, case-5, case-6}
 use Rattle.rules.specs.Differences.{Difference}
@@ -33,7 +32,6 @@ use Rattle.rules.specs.declared.Sketch.{Sketch}
 use Rattle.residue.specs.Field.{Fp, 𝓕, res, zero-is, one-is, eq-zero-res}
 use Rattle.reconcile.specs.InField.{Small, keys-small, res-inj, sampleAt, difference-fits}
 use Rattle.promises.specs.Claims.{Claim, value-is, message-is, values-are, list-refused, tells, refuses-13, sketch-1, sketch-2, Holds, Ready, told-holds, none-holds, All, none, _also_, below, no-key}
-
 open Field 𝓕 using (ring as 𝓡)
 open CRing 𝓡 using (add, mul, zero as 𝟘, one as 𝟙, neg)
 
@@ -214,8 +212,10 @@ point-is j = of-neg modulus-prime j ∙ ap neg (nth-is j)
 twice : (x y : Fp) → mul (add (neg (nth 1)) (neg x)) (add (neg (nth 1)) (neg y)) ≡ nth 4 → mul (add (neg (nth 2)) (neg x)) (add (neg (nth 2)) (neg y)) ≡ nth 9 → mul (add x (neg 𝟙)) (add y (neg 𝟙)) ≡ 𝟘
 twice x y e f =
     by-ring 𝓡 2
-    (λ x y. ((x ⊝ #1) ⊗ (y ⊝ #1),
-      (#1 ⊕ #1 ⊕ #1) ⊗ ((⊖ (#0 ⊕ #1) ⊝ x) ⊗ (⊖ (#0 ⊕ #1) ⊝ y)) ⊝ (#1 ⊕ #1) ⊗ ((⊖ (#0 ⊕ #1 ⊕ #1) ⊝ x) ⊗ (⊖ (#0 ⊕ #1 ⊕ #1) ⊝ y)) ⊕ (#1 ⊕ #1 ⊕ #1 ⊕ #1 ⊕ #1 ⊕ #1)))
+    (λ x y. (
+      (x ⊝ #1) ⊗ (y ⊝ #1),
+      (#1 ⊕ #1 ⊕ #1) ⊗ ((⊖ (#0 ⊕ #1) ⊝ x) ⊗ (⊖ (#0 ⊕ #1) ⊝ y)) ⊝ (#1 ⊕ #1) ⊗ ((⊖ (#0 ⊕ #1 ⊕ #1) ⊝ x) ⊗ (⊖ (#0 ⊕ #1 ⊕ #1) ⊝ y)) ⊕ (#1 ⊕ #1 ⊕ #1 ⊕ #1 ⊕ #1 ⊕ #1),
+    ))
     refl x y
     ∙ ap₂ (λ a b. add (add (mul (add (add 𝟙 𝟙) 𝟙) a) (neg (mul (add 𝟙 𝟙) b))) (add (add (add (add (add 𝟙 𝟙) 𝟙) 𝟙) 𝟙) 𝟙)) e f
     ∙ by-ring 𝓡 0 ((#1 ⊕ #1 ⊕ #1) ⊗ (#0 ⊕ #1 ⊕ #1 ⊕ #1 ⊕ #1) ⊝ (#1 ⊕ #1) ⊗ (#0 ⊕ #1 ⊕ #1 ⊕ #1 ⊕ #1 ⊕ #1 ⊕ #1 ⊕ #1 ⊕ #1 ⊕ #1) ⊕ (#1 ⊕ #1 ⊕ #1 ⊕ #1 ⊕ #1 ⊕ #1), #0) refl
@@ -250,7 +250,7 @@ none-10 [] [] d = omega (arith, count d)
 none-10 (a ∷ []) [] d = omega (arith, count d)
 none-10 (a ∷ b ∷ j ∷ theirs) [] d = omega (arith, count d, d .bound)
 none-10 (a ∷ b ∷ []) [] d = let same = res-inj a b (small a (List·Memᴰ·head refl)) (small b (List·Memᴰ·tail (List·Memᴰ·head refl))) (equal (res a) (res b) (at 0 1 4 (lit< tt) (point-is 1, refl)) (at 1 2 9 (lit< tt) (point-is 2, refl))) in
-  let up = d .theirs-keys .ascending .0 b (List·Memᴰ·head refl) in omega arith
+    let up = d .theirs-keys .ascending .0 b (List·Memᴰ·head refl) in omega arith
   where
     small : Small (a ∷ b ∷ [])
     small = keys-small (a ∷ b ∷ []) (d .theirs-keys)

@@ -6,26 +6,22 @@
 --   written-one            so does that of write, with the buffer
 --
 -- Assumes nothing.
-use mathlib.Core.Path.{_≡_, refl, sym, ap, ap₂, subst, _∙_}
-use mathlib.Core.Logic.{_⊎_, inl, inr}
+use mathlib.Core.Path.{_≡_, refl, sym, ap, _∙_}
+use mathlib.Core.Logic.{inl, inr}
 use mathlib.Core.List.{List, _++_}
 use Prim.Native.Nat.{ℕ}
 use lib.ListN.{length, drop}
-use Rattle.rules.specs.Numbers.{samples, Keys, LegalList}
+use Rattle.rules.specs.Numbers.{samples, Keys}
 use Rattle.rules.specs.Plans.{samples-most}
-use Rattle.rules.specs.Sketches.{WellFormed, wellFormed}
-use Rattle.rules.specs.Formed.{formed}
-use Rattle.rules.specs.Legal.{legal}
-use Rattle.rules.specs.Refusals.{when, _then_}
-use Rattle.rules.specs.Calls.{listAnswer, reconcileTests}
-use Rattle.rules.specs.Tests.{when-done, then-done}
-use Rattle.rules.specs.Reconciling.{DifferenceOf, None, Left, Refuses, Finds, After, Reconciles}
+use Rattle.rules.specs.Sketches.{WellFormed}
+use Rattle.rules.specs.Calls.{reconcileTests}
+use Rattle.rules.specs.Reconciling.{DifferenceOf, Left, Refuses, Finds, After, Reconciles}
 use Rattle.rules.specs.declared.Sketch.{Sketch}
 use Rattle.rules.specs.declared.Sketched.{Sketched}
 use Rattle.rules.specs.declared.Refusal.{Refusal}
 use Rattle.rules.specs.declared.Answer.{Answer}
 use Rattle.rules.specs.declared.Answer.the-variants.{Done, Refused}
-use Rattle.reconcile.specs.InField.{Good, one-difference}
+use Rattle.reconcile.specs.InField.{one-difference}
 use Rattle.reconcile.specs.Passing.{Passing, passing}
 
 pub one-difference-of : (s : Sketch) (home T₁ O₁ T₂ O₂ : List ℕ) → WellFormed s → Keys home → DifferenceOf s home T₁ O₁ → DifferenceOf s home T₂ O₂ → (T₁ ≡ T₂) × (O₁ ≡ O₂)

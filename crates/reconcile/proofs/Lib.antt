@@ -12,3 +12,4 @@ pub mod Checks
 pub mod LowestTerms
 pub mod Sifting
 pub mod Searching
+pub mod Outcomes

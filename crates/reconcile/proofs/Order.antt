@@ -4,7 +4,7 @@
 --   passed         no refusal
 --
 -- Assumes nothing.
-use mathlib.Core.Path.{_≡_, sym}
+use mathlib.Core.Path.{_≡_}
 use mathlib.Core.Bool.{true, false, _||_}
 use mathlib.Core.List.{List}
 use Prim.Native.Nat.{ℕ}

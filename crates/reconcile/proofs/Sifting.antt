@@ -1,16 +1,16 @@
 -- The roots of a divided pair against lists whose χ it is: they are found, as many as the degrees say. And from the divided pair back to the pair.
 --
---   Keyed C            candidates are legal keys
 --   found, counted     the roots found among candidates that include a set are the set, and their count is the degree
 --   passed             roots that were checked pass
 --   judged             the check decides
+--   front-monic        the first numbers of an area, monic of one degree less than they are
 --   sifted             what is said of the divided pair is said of the pair
 --
 -- Assumes nothing.
-use mathlib.Core.Path.{_≡_, refl, sym, ap, ap₂, subst, _∙_}
+use mathlib.Core.Path.{_≡_, sym, ap, subst, _∙_}
 use mathlib.Core.Bool.{Bool, true, false}
 use mathlib.Core.List.{List, map}
-use Prim.Native.Nat.{ℕ, suc, _+_, _-_, _≤_, _<_}
+use Prim.Native.Nat.{ℕ, _-_, _≤_}
 use native.Mathlib.Omega.{arith}
 use lib.ListN.{length, take}
 use lib.Seq.{length-take-le}
@@ -21,12 +21,11 @@ use Rattle.algebra.specs.Fraction.{χ}
 use Rattle.rules.specs.Numbers.{LegalKey, Keys}
 use Rattle.residue.specs.Field.{𝓕, res}
 use Rattle.polynomial.specs.Coefficients.{poly, monic-some}
-use Rattle.polynomial.specs.Answers.{Root, Among}
+use Rattle.polynomial.specs.Answers.{Among}
 use Rattle.reconcile.specs.InField.{keys-small}
 use Rattle.reconcile.specs.Method.{set-roots, set-degree}
 use Rattle.reconcile.specs.Stages.{Decides, NewTo, Agrees, Divided}
-use Rattle.reconcile.specs.Search.{Checked, Passes, Roots, Judged, Behind, Listed, Sifted}
-
+use Rattle.reconcile.specs.Search.{Checked, Roots, Judged, Sifted}
 open Field 𝓕 using (ring as 𝓡)
 
 size : {C : ℕ → Type 0} {p out out′ : List ℕ} {n : ℕ} → Among C p out out′ n → length (take n out′) ≡ n
@@ -76,6 +75,10 @@ module _ (m : ℕ) (b v home top bottom out out′ ours ours′ : List ℕ) (t o
   judged true c = passed c
   judged false c = refused c
 
+-- the first n numbers of an area, by their own length
+pub front-monic : (n : ℕ) (l : List ℕ) → n ≤ length l → Monic 𝓡 (n - 1) (poly (take n l)) → Monic 𝓡 (length (take n l) - 1) (poly (take n l))
+front-monic n l h m = subst (λ k. Monic 𝓡 (k - 1) (poly (take n l))) (sym (length-take-le n l h)) m
+
 pub sifted : (m : ℕ) (b v home p q top bottom theirs ours : List ℕ) (k t o : ℕ) → Divided p q top bottom k → (r : Bool)
     → Judged m b v home (take (length p - k) top) (take (length q - k) bottom) theirs ours r t o → Sifted m b v home p q theirs ours r t o
 sifted m b v home p q top bottom theirs ours k t o d true j = record {
@@ -87,5 +90,5 @@ sifted m b v home p q top bottom theirs ours k t o d true j = record {
   ours-degree = omega (arith, j .ours-degree, d .less-q, length-take-le (length q - k) bottom (omega (arith, d .len-q)));
 }
 sifted m b v home p q top bottom theirs ours k t o d false j = λ T O h behind.
-  let e = behind (d .g) (poly (take (length p - k) top)) (poly (take (length q - k) bottom)) (length p - k - 1) (d .gcd) (d .is-p) (d .is-q) (d .monic-p) in
-  j T O h (e .0) (e .1)
+    let e = behind (d .g) (poly (take (length p - k) top)) (poly (take (length q - k) bottom)) (length p - k - 1) (d .gcd) (d .is-p) (d .is-q) (d .monic-p) in
+    j T O h (e .0) (e .1)

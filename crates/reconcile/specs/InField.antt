@@ -10,15 +10,15 @@
 -- Assumes nothing.
 use mathlib.Core.Path.{_≡_, refl, sym, ap, ap₂, _∙_}
 use mathlib.Core.List.{List, [], _∷_, map, List·Memᴰ·head, List·Memᴰ·tail, Memᴰ·cast, Memᴰ·map, Memᴰ·of-map}
-use Prim.Native.Nat.{ℕ, suc, _+_, _-_, _%_, _≤_, _<_}
+use Prim.Native.Nat.{ℕ, suc, _+_, _-_, _≤_, _<_}
 use native.Mathlib.Nat.{mod-eq-of-lt}
 use native.Mathlib.Omega.{arith}
 use lib.ListN.{length, length-map, getD}
 use Rattle.algebra.specs.Ring.{CRing}
 use Rattle.algebra.specs.Field.{Field}
-use Rattle.algebra.specs.Sets.{_∈_, _⊆_, Distinct, Ascending, ascending-distinct, ascending-ext}
-use Rattle.algebra.specs.Residues.{eq-of, eq-zero-of}
-use Rattle.algebra.specs.Arithmetic.{mulOf, eq-of-means}
+use Rattle.algebra.specs.Sets.{_∈_, _⊆_, Distinct, ascending-ext}
+use Rattle.algebra.specs.Residues.{eq-zero-of}
+use Rattle.algebra.specs.Arithmetic.{eq-of-means}
 use Rattle.algebra.specs.Fraction.{Samples, Fits, one-theirs, one-ours}
 use Rattle.rules.specs.Numbers.{modulus, modulus-prime, point, mostSamples, Keys}
 use Rattle.rules.specs.Sketches.{value}

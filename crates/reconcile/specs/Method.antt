@@ -9,22 +9,21 @@
 --   set-roots, set-degree  so its roots among the keys are theirs and ours, and its degree is their count
 --
 -- Assumes nothing.
-use mathlib.Core.Path.{_≡_, refl, sym, ap, ap₂, subst, _∙_}
-use mathlib.Core.Logic.{⊎-elim, _↔_}
+use mathlib.Core.Path.{_≡_, refl, sym, ap, subst, _∙_}
+use mathlib.Core.Logic.{_↔_}
 use mathlib.Core.List.{List, map}
-use Prim.Native.Nat.{ℕ, suc, _+_, _-_, _/_, _≤_, _<_}
+use Prim.Native.Nat.{ℕ, _+_, _-_, _/_, _≤_, _<_}
 use native.Mathlib.Omega.{arith}
 use lib.ListN.{length, length-map, getD}
 use Rattle.algebra.specs.Ring.{CRing, mul-left-comm}
 use Rattle.algebra.specs.Field.{Field}
-use Rattle.algebra.specs.Solver.{_⊗_, by-ring}
-use Rattle.algebra.specs.Sets.{_∈_, Distinct, ascending-distinct}
+use Rattle.algebra.specs.Sets.{_∈_, ascending-distinct}
 use Rattle.algebra.specs.Product.{prod}
 use Rattle.algebra.specs.Polynomial.{coeff, value, chi, Monic, chi-monic, value-chi}
 use Rattle.algebra.specs.Series.{series}
 use Rattle.algebra.specs.Divide.{monic-degree}
 use Rattle.algebra.specs.Gcd.{IsGcd}
-use Rattle.algebra.specs.Linear.{dot, dot-ext, Meets}
+use Rattle.algebra.specs.Linear.{dot-ext, Meets}
 use Rattle.algebra.specs.Raise.{pow, raise, raise-monic, raise-value}
 use Rattle.algebra.specs.Interpolate.{row, lowers, lowers-hold, agree-meets}
 use Rattle.algebra.specs.Fraction.{χ, decode, roots-are}
@@ -33,7 +32,6 @@ use Rattle.rules.specs.Differences.{Difference}
 use Rattle.residue.specs.Field.{Fp, 𝓕, res}
 use Rattle.reconcile.specs.Gap.{gap-eq}
 use Rattle.reconcile.specs.InField.{sampleAt, Good, keys-small, mem-res, res-mem, distinct-res, samples-of, difference-fits}
-
 open Field 𝓕 using (ring as 𝓡, one-ne-zero)
 open CRing 𝓡 using (mul, zero, one)
 open CRing (series 𝓡) using (mul as mulˢ)
@@ -98,10 +96,13 @@ module _ (m n : ℕ) (v home : List ℕ) (le : m ≤ mostSamples) (good : Good m
         w = pow 𝓡 (sampleAt i) (sizes .spare)
 
     pub solvable : (E : ℕ → ℕ → Fp) → ((i j : ℕ) → i < m → j ≤ dP + dQ → E i j ≡ rowAt i j) → (x : ℕ → Fp) × Meets 𝓡 (dP + dQ) m E x
-    solvable E rows = (x₀, λ i l.
-        dot-ext 𝓡 (dP + dQ) (E i) x₀ (rowAt i) x₀ (λ j h. rows i j l (omega arith)) (λ j h. refl)
-        ∙ agree-meets 𝓡 dP dQ x₀ P₀ Q₀ (lowers-hold 𝓡 dP dQ P₀ Q₀ monic-P₀ monic-Q₀) (sampleAt i) (prod 𝓡 (map res home) (sampleAt i)) (res (getD v i 0)) (agrees₀ i l)
-        ∙ sym (rows i (dP + dQ) l (omega arith)))
+    solvable E rows = (
+      x₀,
+      λ i l.
+          dot-ext 𝓡 (dP + dQ) (E i) x₀ (rowAt i) x₀ (λ j h. rows i j l (omega arith)) (λ j h. refl)
+          ∙ agree-meets 𝓡 dP dQ x₀ P₀ Q₀ (lowers-hold 𝓡 dP dQ P₀ Q₀ monic-P₀ monic-Q₀) (sampleAt i) (prod 𝓡 (map res home) (sampleAt i)) (res (getD v i 0)) (agrees₀ i l)
+          ∙ sym (rows i (dP + dQ) l (omega arith)),
+    )
       where
         x₀ : ℕ → Fp
         x₀ = lowers 𝓡 dP P₀ Q₀

@@ -6,6 +6,7 @@
 --   Behind p q T O         theirs T and ours O are the sets behind the fraction p / q: however it is reduced, χ_T and χ_O are left
 --   Sifted                 such lists, with counts that go with the degrees of p and q; or none that pass are behind p / q
 --   Searched               a difference, or there is none
+--   Finding                the same, for every size whose degrees are given
 --
 -- Assumes nothing.
 use mathlib.Core.Path.{_≡_}
@@ -24,8 +25,9 @@ use Rattle.rules.specs.Numbers.{Keys}
 use Rattle.rules.specs.Differences.{Difference}
 use Rattle.residue.specs.Field.{Fp, 𝓕, res}
 use Rattle.polynomial.specs.Coefficients.{poly}
+use Rattle.reconcile.specs.InField.{Good}
+use Rattle.reconcile.specs.Method.{degreeOf}
 use Rattle.reconcile.specs.Stages.{NewTo, Agrees}
-
 open Field 𝓕 using (ring as 𝓡)
 open CRing (series 𝓡) using (mul as mulˢ)
 
@@ -81,3 +83,8 @@ pub record Found (m n : ℕ) (v home theirs ours : List ℕ) (t o : ℕ) : Type 
 abbrev pub Searched : (m n : ℕ) (v home theirs ours : List ℕ) (found : Bool) (t o : ℕ) → Type 0
 Searched m n v home theirs ours true t o = Found m n v home theirs ours t o
 Searched m n v home theirs ours false t o = (T O : List ℕ) → ¬ (Difference m n v home T O)
+
+-- what is searched with polynomials of degrees d and e is right for every size that has these degrees
+abbrev pub Finding : (m d e : ℕ) (v home theirs ours : List ℕ) (found : Bool) (t o : ℕ) → Type 0
+Finding m d e v home theirs ours found t o = (n : ℕ) → Good m v → length home ≤ n + m → n ≤ length home + m → d ≡ degreeOf m n (length home) → e ≡ degreeOf m (length home) n
+    → Searched m n v home theirs ours found t o

@@ -65,7 +65,16 @@ pub fn agrees(m: usize, b: &[u32], v: &[u32], theirs: &[u32], ours: &[u32]) -> b
 }
 
 // The last check of what was found: as many keys as the degrees p and q say, none of theirs at home, and the equations of all m points.
-pub fn passes(m: usize, b: &[u32], v: &[u32], home: &[u32], theirs: &[u32], ours: &[u32], p: usize, q: usize) -> bool
+pub fn passes(
+    m: usize,
+    b: &[u32],
+    v: &[u32],
+    home: &[u32],
+    theirs: &[u32],
+    ours: &[u32],
+    p: usize,
+    q: usize,
+) -> bool
     requires { ⌜ (m ≤ mostSamples) × (m ≤ length (now b)) × (m ≤ length (now v)) × Ascending (now home) ⌝ }
     ensures { λ r. ⌜ Decides (Checked m (now (b .entry)) (now (v .entry)) (now (home .entry)) (now (theirs .entry)) (now (ours .entry)) p q) r ⌝ }
 {

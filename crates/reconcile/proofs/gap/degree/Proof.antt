@@ -1,6 +1,6 @@
 -- `reconcile::gap::degree` meets its contract: the signed sum m + n − count is not negative, and its half is that of the natural. Assumes nothing.
 use mathlib.Core.Path.{_≡_, sym, ap, subst, _∙_}
-use Prim.Native.Nat.{ℕ, _+_, _-_, _/_}
+use Prim.Native.Nat.{_+_, _-_, _/_}
 use native.Mathlib.Omega.{arith}
 use lib.IntN.{ℤ, pos, subℕ, _+ℤ_}
 use lib.Signed.{quotZ}
