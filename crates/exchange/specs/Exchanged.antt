@@ -1,0 +1,25 @@
+-- What an exchange answers and leaves: the refusal of the dome's sketch, or else what reconciling that sketch with home's list does.
+--
+--   left r theirs ours     what a call leaves, from its result and its two buffers
+--   Exchanges              the relation; of one outcome, since reconcile has one
+--
+-- Assumes nothing.
+use mathlib.Core.List.{List}
+use Prim.Native.Nat.{ℕ}
+use Rattle.rules.specs.Numbers.{planOf}
+use Rattle.rules.specs.Sketches.{sketchOf}
+use Rattle.rules.specs.Calls.{sketchAnswer}
+use Rattle.rules.specs.Reconciling.{Left, Refuses, Reconciles}
+use Rattle.rules.specs.declared.Answer.{Answer}
+use Rattle.rules.specs.declared.Answer.the-variants.{Done, Refused}
+use Rattle.reconcile.specs.declared.Reconciled.{Reconciled}
+
+abbrev pub left : Reconciled → List ℕ → List ℕ → Left
+left r theirs ours = record { answer = r .answer; theirs-count = r .theirs; ours-count = r .ours; theirs = theirs; ours = ours }
+
+abbrev pub Sent : Answer → ℕ → List ℕ → List ℕ → List ℕ → List ℕ → Left → Type 0
+Sent (Refused r) plan dome home theirs ours l = Refuses r theirs ours l
+Sent Done plan dome home theirs ours l = Reconciles (sketchOf plan dome) home theirs ours l
+
+unfoldable pub Exchanges : ℕ → List ℕ → List ℕ → List ℕ → List ℕ → Left → Type 0
+Exchanges request dome home theirs ours l = Sent (sketchAnswer request dome) (planOf request) dome home theirs ours l
