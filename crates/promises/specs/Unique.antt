@@ -2,8 +2,9 @@
 --
 --   one-difference-of      "At most one pair meets this; that is to be proved."
 --   reconcile-one          so reconcile's contract, which says what is found and not how, leaves one outcome
---   sketched-one           the contracts of sketch, read, add and remove give answer and sketch by definitions: one outcome
---   written-one            so does that of write, with the buffer
+--   sketched-one           the contracts of sketch, read, added and removed give answer and sketch by definitions: one outcome
+--   updated-one            those of add and remove give the answer and the lent sketch afterwards: one outcome
+--   written-one            that of write gives the answer, the length and the lent buffer afterwards: one outcome
 --
 -- Assumes nothing.
 use mathlib.Core.Path.{_≡_, refl, sym, ap, _∙_}
@@ -14,13 +15,14 @@ use lib.ListN.{length, drop}
 use Rattle.rules.specs.Numbers.{samples, Keys}
 use Rattle.rules.specs.Plans.{samples-most}
 use Rattle.rules.specs.Sketches.{WellFormed}
-use Rattle.rules.specs.Calls.{reconcileTests}
+use Rattle.rules.specs.Calls.{writeAnswer, writeLength, writeBuffer, reconcileTests}
 use Rattle.rules.specs.Reconciling.{DifferenceOf, Left, Refuses, Finds, After, Reconciles}
 use Rattle.rules.specs.declared.Sketch.{Sketch}
 use Rattle.rules.specs.declared.Sketched.{Sketched}
 use Rattle.rules.specs.declared.Refusal.{Refusal}
 use Rattle.rules.specs.declared.Answer.{Answer}
 use Rattle.rules.specs.declared.Answer.the-variants.{Done, Refused}
+use Rattle.message.specs.declared.Written.{Written}
 use Rattle.reconcile.specs.InField.{one-difference}
 use Rattle.reconcile.specs.Passing.{Passing, passing}
 
@@ -60,3 +62,14 @@ reconcile-one s home theirs ours a b = go (reconcileTests s home (length theirs)
 
 pub sketched-one : (answer : Answer) (sketch : Sketch) (a b : Sketched) → (a .answer ≡ answer) × (a .sketch ≡ sketch) → (b .answer ≡ answer) × (b .sketch ≡ sketch) → a ≡ b
 sketched-one answer sketch a b x y = λ i. record { answer = (x .0 ∙ sym (y .0)) i; sketch = (x .1 ∙ sym (y .1)) i }
+
+pub updated-one : (answer : Answer) (sketch : Sketch) (a b : Answer × Sketch) → (a .0 ≡ answer) × (a .1 ≡ sketch) → (b .0 ≡ answer) × (b .1 ≡ sketch) → a ≡ b
+updated-one answer sketch a b x y = λ i. ((x .0 ∙ sym (y .0)) i , (x .1 ∙ sym (y .1)) i)
+
+-- what a write of one sketch into one buffer may give, and leave in the buffer
+abbrev Writes : Sketch → List ℕ → Written → List ℕ → Type 0
+Writes s buffer r after = (r .answer ≡ writeAnswer s (length buffer)) × (r .length ≡ writeLength s (length buffer)) × (after ≡ writeBuffer s buffer)
+
+pub written-one : (s : Sketch) (buffer : List ℕ) (a b : Written) (after-a after-b : List ℕ) → Writes s buffer a after-a → Writes s buffer b after-b → (a ≡ b) × (after-a ≡ after-b)
+written-one s buffer a b after-a after-b x y =
+    ((λ i. record { answer = (x .0 ∙ sym (y .0)) i; length = (x .1 ∙ sym (y .1)) i }) , x .2 ∙ sym (y .2))
