@@ -1,4 +1,5 @@
 pub mod Unique
+pub mod Entries
 pub mod Demands
 pub mod Claims
 pub mod Starred

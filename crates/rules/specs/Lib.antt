@@ -1,5 +1,5 @@
 -- Document 01 in its order. What a reader must believe: Numbers, Sketches, Messages, Differences, Refusals,
--- Calls, Reconciling. What is shown of them: Tests, Plans, Formed, Legal, Cases.
+-- Calls, Reconciling, Entries. What is shown of them: Tests, Plans, Formed, Legal, Packed, Cases.
 pub mod Numbers
 pub mod Sketches
 pub mod Messages
@@ -7,8 +7,10 @@ pub mod Differences
 pub mod Refusals
 pub mod Calls
 pub mod Reconciling
+pub mod Entries
 pub mod Tests
 pub mod Plans
 pub mod Formed
 pub mod Legal
+pub mod Packed
 pub mod Cases

@@ -1,0 +1,96 @@
+# The C side of Vlomdar: the archive, the example, the checks and the installation. The proofs and programs are `rt check`'s (see README.md).
+#
+#   make                   target/staticlib/libvlomdar.a (proves the library first) and build/exchange
+#   make check             header as C and C++, example against its expected output, entries against document 01, an installation
+#   make against           a second implementation against the archive and the night report (tests/README.md), under valgrind, and a minute of damaged inputs
+#   make bench             what a sketch costs beside plain C++ (prints times; fails only on a wrong answer)
+#   make install PREFIX=.. header, archive, vlomdar.pc and man pages; DESTDIR is put before PREFIX
+#   make clean             removes build/
+
+PREFIX ?= /usr/local
+DESTDIR ?=
+CC ?= cc
+CXX ?= c++
+RT ?= rt
+CFLAGS ?= -O2 -g
+CXXFLAGS ?= -O2 -g
+WARN = -Wall -Wextra -Wpedantic -Werror
+VERSION = 1.0.0
+
+ARCHIVE = target/staticlib/libvlomdar.a
+REPORT = target/bin/night_report
+SOURCES = crates.txt $(shell find crates -name '*.rt' -o -name '*.antt')
+
+.PHONY: all check check-header check-example check-entries check-install against bench install clean
+
+all: $(ARCHIVE) build/exchange
+
+$(ARCHIVE): $(SOURCES)
+	$(RT) staticlib vlomdar
+	touch $@
+
+$(REPORT): $(SOURCES) | $(ARCHIVE)
+	$(RT) check night_report
+	touch $@
+
+build:
+	mkdir -p build
+
+build/exchange: examples/exchange.c include/vlomdar.h $(ARCHIVE) | build
+	$(CC) -std=c99 $(WARN) $(CFLAGS) -Iinclude -o $@ examples/exchange.c $(ARCHIVE)
+
+build/entries: tests/c/entries.c include/vlomdar.h $(ARCHIVE) | build
+	$(CC) -std=c11 $(WARN) $(CFLAGS) -Iinclude -o $@ tests/c/entries.c $(ARCHIVE) -lpthread
+
+# The example in the header's opening comment, as code.
+build/header_example.h: include/vlomdar.h | build
+	sed -n '/^ \* Example:/,/^ \* Link/s/^ \*     //p' include/vlomdar.h > $@
+	test -s $@
+
+check: check-header check-example check-entries check-install
+	@echo "C: all checks passed"
+
+check-header: build/header_example.h
+	$(CC) -std=c99 $(WARN) -Iinclude -Ibuild -fsyntax-only tests/c/header.c
+	$(CXX) -x c++ -std=c++11 $(WARN) -Iinclude -Ibuild -fsyntax-only tests/c/header.c
+
+check-example: build/exchange
+	build/exchange > build/exchange.out
+	diff -u examples/exchange.expected build/exchange.out
+
+check-entries: build/entries
+	build/entries
+
+# Installs into build/root and builds the example from there, by pkg-config alone.
+check-install: $(ARCHIVE) | build
+	rm -rf build/root
+	$(MAKE) --no-print-directory install PREFIX=$(CURDIR)/build/root DESTDIR=
+	$(CC) -std=c99 $(WARN) -o build/exchange-installed examples/exchange.c $$(PKG_CONFIG_PATH=build/root/lib/pkgconfig pkg-config --cflags --libs vlomdar)
+	build/exchange-installed | diff -u examples/exchange.expected -
+
+# Another way to the same answers: thousands of random calls, every byte of every buffer compared.
+AGAINST = VLOMDAR_LIB=$(CURDIR)/target/staticlib VLOMDAR_REPORT=$(CURDIR)/$(REPORT)
+
+against: $(ARCHIVE) $(REPORT)
+	cd tests && cargo test --offline --quiet -p second
+	cd tests && $(AGAINST) cargo run --offline --quiet --release -p against
+	cd tests && $(AGAINST) valgrind --quiet --error-exitcode=9 target/release/against short
+	cd tests && $(AGAINST) target/release/against fuzz seconds 60
+
+build/bench: bench/sketch.cpp include/vlomdar.h $(ARCHIVE) | build
+	$(CXX) -std=c++11 $(WARN) $(CXXFLAGS) -Iinclude -o $@ bench/sketch.cpp $(ARCHIVE)
+
+bench: build/bench
+	build/bench
+
+install: $(ARCHIVE)
+	install -d $(DESTDIR)$(PREFIX)/include $(DESTDIR)$(PREFIX)/lib/pkgconfig $(DESTDIR)$(PREFIX)/share/man/man1 $(DESTDIR)$(PREFIX)/share/man/man3
+	install -m 644 include/vlomdar.h $(DESTDIR)$(PREFIX)/include/
+	install -m 644 $(ARCHIVE) $(DESTDIR)$(PREFIX)/lib/
+	sed -e 's|@PREFIX@|$(PREFIX)|' -e 's|@VERSION@|$(VERSION)|' vlomdar.pc.in > $(DESTDIR)$(PREFIX)/lib/pkgconfig/vlomdar.pc
+	chmod 644 $(DESTDIR)$(PREFIX)/lib/pkgconfig/vlomdar.pc
+	install -m 644 man/vlomdar.3 $(DESTDIR)$(PREFIX)/share/man/man3/
+	install -m 644 man/night_report.1 $(DESTDIR)$(PREFIX)/share/man/man1/
+
+clean:
+	rm -rf build
