@@ -1,5 +1,6 @@
 pub mod Unique
 pub mod Entries
+pub mod Reports
 pub mod Demands
 pub mod Claims
 pub mod Starred

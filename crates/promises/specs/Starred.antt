@@ -78,11 +78,11 @@ count : {m n : ℕ} {v home theirs ours : List ℕ} → Difference m n v home th
 count {n = n} {home = home} {theirs = theirs} {ours = ours} d = gap-eq (length theirs) (length ours) n (length home) (d .gap)
 
 -- 7. "Home {1}, sketch of {3}, m = 2 (values 65,533 and 65,532): theirs 3, ours 1."
-ready-7 : Ready (sketch-2 1 65533 65532) (1 ∷ [])
+pub ready-7 : Ready (sketch-2 1 65533 65532) (1 ∷ [])
 unfolding wellFormed listAnswer
 ready-7 = record { whole = refl; listed = refl; low = lit≤ tt; high = lit≤ tt }
 
-difference-7 : DifferenceOf (sketch-2 1 65533 65532) (1 ∷ []) (3 ∷ []) (1 ∷ [])
+pub difference-7 : DifferenceOf (sketch-2 1 65533 65532) (1 ∷ []) (3 ∷ []) (1 ∷ [])
 unfolding productOf
 difference-7 = record {
   theirs-keys = keys-legal (3 ∷ []) refl;

@@ -64,7 +64,7 @@ pub sketched-one : (answer : Answer) (sketch : Sketch) (a b : Sketched) → (a .
 sketched-one answer sketch a b x y = λ i. record { answer = (x .0 ∙ sym (y .0)) i; sketch = (x .1 ∙ sym (y .1)) i }
 
 pub updated-one : (answer : Answer) (sketch : Sketch) (a b : Answer × Sketch) → (a .0 ≡ answer) × (a .1 ≡ sketch) → (b .0 ≡ answer) × (b .1 ≡ sketch) → a ≡ b
-updated-one answer sketch a b x y = λ i. ((x .0 ∙ sym (y .0)) i , (x .1 ∙ sym (y .1)) i)
+updated-one answer sketch a b x y = λ i. ((x .0 ∙ sym (y .0)) i, (x .1 ∙ sym (y .1)) i)
 
 -- what a write of one sketch into one buffer may give, and leave in the buffer
 abbrev Writes : Sketch → List ℕ → Written → List ℕ → Type 0
@@ -72,4 +72,4 @@ Writes s buffer r after = (r .answer ≡ writeAnswer s (length buffer)) × (r .l
 
 pub written-one : (s : Sketch) (buffer : List ℕ) (a b : Written) (after-a after-b : List ℕ) → Writes s buffer a after-a → Writes s buffer b after-b → (a ≡ b) × (after-a ≡ after-b)
 written-one s buffer a b after-a after-b x y =
-    ((λ i. record { answer = (x .0 ∙ sym (y .0)) i; length = (x .1 ∙ sym (y .1)) i }) , x .2 ∙ sym (y .2))
+    ((λ i. record { answer = (x .0 ∙ sym (y .0)) i; length = (x .1 ∙ sym (y .1)) i }), x .2 ∙ sym (y .2))

@@ -1,5 +1,5 @@
 -- Document 01 in its order. What a reader must believe: Numbers, Sketches, Messages, Differences, Refusals,
--- Calls, Reconciling, Entries. What is shown of them: Tests, Plans, Formed, Legal, Packed, Cases.
+-- Calls, Reconciling, Entries, Report. What is shown of them: Tests, Plans, Formed, Legal, Packed, Cases, ReportCases.
 pub mod Numbers
 pub mod Sketches
 pub mod Messages
@@ -8,9 +8,11 @@ pub mod Refusals
 pub mod Calls
 pub mod Reconciling
 pub mod Entries
+pub mod Report
 pub mod Tests
 pub mod Plans
 pub mod Formed
 pub mod Legal
 pub mod Packed
 pub mod Cases
+pub mod ReportCases
