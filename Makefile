@@ -4,7 +4,7 @@
 #   make check             header as C and C++, example against its expected output, entries against document 01, an installation
 #   make against           a second implementation against the archive and the night report (tests/README.md), under valgrind, and a minute of damaged inputs
 #   make bench             what a sketch costs beside plain C++ (prints times; fails only on a wrong answer)
-#   make install PREFIX=.. header, archive, vlomdar.pc and man pages; DESTDIR is put before PREFIX
+#   make install PREFIX=.. header, archive, vlomdar.pc, the program night_report and man pages; DESTDIR is put before PREFIX
 #   make clean             removes build/
 
 PREFIX ?= /usr/local
@@ -62,11 +62,12 @@ check-entries: build/entries
 	build/entries
 
 # Installs into build/root and builds the example from there, by pkg-config alone.
-check-install: $(ARCHIVE) | build
+check-install: $(ARCHIVE) $(REPORT) | build
 	rm -rf build/root
 	$(MAKE) --no-print-directory install PREFIX=$(CURDIR)/build/root DESTDIR=
 	$(CC) -std=c99 $(WARN) -o build/exchange-installed examples/exchange.c $$(PKG_CONFIG_PATH=build/root/lib/pkgconfig pkg-config --cflags --libs vlomdar)
 	build/exchange-installed | diff -u examples/exchange.expected -
+	build/root/bin/night_report < crates/night_report/stdin | diff -u crates/night_report/stdout -
 
 # Another way to the same answers: thousands of random calls, every byte of every buffer compared.
 AGAINST = VLOMDAR_LIB=$(CURDIR)/target/staticlib VLOMDAR_REPORT=$(CURDIR)/$(REPORT)
@@ -83,8 +84,9 @@ build/bench: bench/sketch.cpp include/vlomdar.h $(ARCHIVE) | build
 bench: build/bench
 	build/bench
 
-install: $(ARCHIVE)
-	install -d $(DESTDIR)$(PREFIX)/include $(DESTDIR)$(PREFIX)/lib/pkgconfig $(DESTDIR)$(PREFIX)/share/man/man1 $(DESTDIR)$(PREFIX)/share/man/man3
+install: $(ARCHIVE) $(REPORT)
+	install -d $(DESTDIR)$(PREFIX)/bin $(DESTDIR)$(PREFIX)/include $(DESTDIR)$(PREFIX)/lib/pkgconfig $(DESTDIR)$(PREFIX)/share/man/man1 $(DESTDIR)$(PREFIX)/share/man/man3
+	install -m 755 $(REPORT) $(DESTDIR)$(PREFIX)/bin/
 	install -m 644 include/vlomdar.h $(DESTDIR)$(PREFIX)/include/
 	install -m 644 $(ARCHIVE) $(DESTDIR)$(PREFIX)/lib/
 	sed -e 's|@PREFIX@|$(PREFIX)|' -e 's|@VERSION@|$(VERSION)|' vlomdar.pc.in > $(DESTDIR)$(PREFIX)/lib/pkgconfig/vlomdar.pc
