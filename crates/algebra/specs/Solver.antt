@@ -4,8 +4,8 @@
 --   norm           the normal form: a sum of signed products of atoms, sorted, opposite terms struck out
 --   val 𝓡 ρ e      what an expression means in the ring 𝓡 with ρ for its atoms
 --   solve          equal normal forms, equal meanings
---   ring₁ .. ring₈ solve with that many atoms, the way it is used everywhere:
---                      ring₂ 𝓡 (λ a b. ((a ⊕ b) ⊗ (a ⊝ b), a ⊗ a ⊝ b ⊗ b)) refl a b
+--   by-ring 𝓡 n    solve with n atoms, the way it is used everywhere:
+--                      by-ring 𝓡 2 (λ a b. ((a ⊕ b) ⊗ (a ⊝ b), a ⊗ a ⊝ b ⊗ b)) refl a b
 --
 -- It serves power series too, and with them polynomials (see Series). Assumes nothing.
 use mathlib.Core.Path.{_≡_, refl, sym, _∙_, ap, ap₂}
