@@ -2,7 +2,7 @@
 --
 --   Outcome s buffer a n after     the answer a, the length n and the buffer `after` are those of document 01
 --   malformed, short       the two refusals
---   fits, packed           no refusal; then the message stands before the rest of the buffer
+--   packed                 no refusal: the message stands before the rest of the buffer
 --   message-bytes          the message is the bytes of its fields
 --
 -- Assumes nothing.

@@ -3,7 +3,7 @@
 --   refused-outcome, found-outcome     reconcile refuses; reconcile finds a difference
 --   refused-read, good-read            the read refuses; it does not, and what reconcile says counts
 --   bad-form, whole-form               an input that is bad at a line; one that is not
---   too-long, looked-at, reports       the length of the input
+--   too-long, looked-at                the length of the input
 --   told                               what the report returns
 --
 -- Assumes nothing.
