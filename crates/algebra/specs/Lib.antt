@@ -2,7 +2,9 @@
 pub mod Ring
 pub mod Solver
 pub mod Field
+pub mod Decided
 pub mod Sets
+pub mod Indexed
 pub mod Tabulate
 pub mod Remainder
 pub mod Prime
