@@ -19,7 +19,7 @@ use Rattle.rules.specs.Refusals.{when, _then_}
 use Rattle.rules.specs.Calls.{messageValue, valuesAnswer}
 use Rattle.rules.specs.declared.Refusal.the-variants.{BadValue}
 use Rattle.rules.specs.declared.Answer.the-variants.{Done, Refused}
-use Rattle.sketch.specs.Filled.{slots-zero, slots-more}
+use Rattle.rules.specs.Filled.{slots-zero, slots-more}
 use Rattle.message.specs.Parts.{valuesOf, noValues, ValuesOf}
 use Rattle.message.proofs.Answers.{gives-done, gives-refused}
 

@@ -50,8 +50,8 @@ pub fn agrees(m: usize, b: &[u32], v: &[u32], theirs: &[u32], ours: &[u32]) -> b
     requires { ⌜ (m ≤ mostSamples) × (m ≤ length (now b)) × (m ≤ length (now v)) ⌝ }
     ensures { λ r. ⌜ Decides (Agrees m (now (b .entry)) (now (v .entry)) (now (theirs .entry)) (now (ours .entry))) r ⌝ }
 {
-    let new = sketch::values(m, theirs);
-    let held = sketch::values(m, ours);
+    let new = product::values(m, theirs);
+    let held = product::values(m, ours);
     let mut i = 0;
     while i < m {
         let left = Residue(new[i]).mul(Residue(b[i]));

@@ -1,5 +1,5 @@
 -- Document 01 in its order. What a reader must believe: Numbers, Sketches, Messages, Differences, Refusals,
--- Calls, Reconciling, Entries, Report. What is shown of them: Tests, Plans, Formed, Legal, Packed, Cases, ReportCases.
+-- Calls, Reconciling, Entries, Report. What is shown of them: Tests, Plans, Formed, Filled, Legal, Packed, Cases, ReportCases.
 pub mod Numbers
 pub mod Sketches
 pub mod Messages
@@ -12,6 +12,7 @@ pub mod Report
 pub mod Tests
 pub mod Plans
 pub mod Formed
+pub mod Filled
 pub mod Legal
 pub mod Packed
 pub mod Cases

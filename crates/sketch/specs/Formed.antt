@@ -17,7 +17,7 @@ use Rattle.rules.specs.Plans.{samples-most}
 use Rattle.rules.specs.Sketches.{value, slots, sketchOf, WellFormed}
 use Rattle.rules.specs.Formed.{slots-length}
 use Rattle.rules.specs.declared.Sketch.{Sketch}
-use Rattle.sketch.specs.Filled.{slot-low, slot-high}
+use Rattle.rules.specs.Filled.{slot-low, slot-high}
 use Rattle.sketch.specs.Changes.{factorOf, MayChange, sizeAfter, changedBy}
 use Rattle.sketch.specs.Updates.{Accepted}
 use Rattle.sketch.specs.Proper.{Proper, mul-proper, factor-proper, value-proper}

@@ -1,5 +1,4 @@
--- What the contracts cite beside document 01: Changes, Updates. What is shown of sketches: Filled, Values, Proper, Formed, Running.
-pub mod Filled
+-- What the contracts cite beside document 01: Changes, Updates. What is shown of sketches: Values, Proper, Formed, Running.
 pub mod Changes
 pub mod Values
 pub mod Updates

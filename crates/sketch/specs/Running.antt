@@ -21,7 +21,7 @@ use Rattle.rules.specs.Numbers.{modulus, point, LegalKey, mostSamples, listLimi
 use Rattle.rules.specs.Sketches.{sketchOf, WellFormed, value}
 use Rattle.rules.specs.Calls.{addResult, removeResult}
 use Rattle.rules.specs.declared.Sketch.{Sketch}
-use Rattle.sketch.specs.Filled.{slot-low, slot-high, slots-ext, slots-same}
+use Rattle.rules.specs.Filled.{slot-low, slot-high, slots-ext, slots-same}
 use Rattle.sketch.specs.Changes.{factorOf, multiplied, MayChange, sizeAfter, changedBy}
 use Rattle.sketch.specs.Values.{values-snoc}
 use Rattle.sketch.specs.Updates.{updateResult, Accepted, changes}
