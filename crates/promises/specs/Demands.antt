@@ -28,7 +28,7 @@ use Rattle.rules.specs.Messages.{message}
 use Rattle.rules.specs.Calls.{readResult}
 use Rattle.rules.specs.Reconciling.{DifferenceOf, Left, After, Reconciles}
 use Rattle.rules.specs.declared.Answer.the-variants.{Done}
-use Rattle.reconcile.specs.Gap.{eq-gap}
+use Rattle.gap.specs.Gap.{eq-gap}
 use Rattle.reconcile.specs.Passing.{Passing, passes-tests}
 use Rattle.sketch.specs.Formed.{sketch-formed}
 use Rattle.message.specs.RoundTrip.{read-message, one-message}

@@ -27,10 +27,11 @@ use Rattle.rules.specs.Legal.{keys-legal}
 use Rattle.rules.specs.Cases.{case-1, case-2-value, case-2, case-3-value, case-3, case-4-first, case-4-last, case-4-refused, case-5, case-6}
 use Rattle.rules.specs.Differences.{Difference}
 use Rattle.rules.specs.Reconciling.{None, DifferenceOf}
-use Rattle.reconcile.specs.Gap.{gap-eq}
+use Rattle.gap.specs.Gap.{gap-eq}
 use Rattle.rules.specs.declared.Sketch.{Sketch}
 use Rattle.residue.specs.Field.{Fp, 𝓕, res, zero-is, one-is, eq-zero-res}
-use Rattle.reconcile.specs.InField.{Small, keys-small, res-inj, sampleAt, difference-fits}
+use Rattle.interpolation.specs.Interpolated.{sampleAt}
+use Rattle.reconcile.specs.InField.{Small, keys-small, res-inj, difference-fits}
 use Rattle.promises.specs.Claims.{Claim, value-is, message-is, values-are, list-refused, tells, refuses-13, sketch-1, sketch-2, Holds, Ready, told-holds, none-holds, All, none, _also_, below, no-key}
 open Field 𝓕 using (ring as 𝓡)
 open CRing 𝓡 using (add, mul, zero as 𝟘, one as 𝟙, neg)

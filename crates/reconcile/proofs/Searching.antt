@@ -31,10 +31,12 @@ use Rattle.rules.specs.Differences.{Difference}
 use Rattle.rules.specs.Formed.{slots-at}
 use Rattle.residue.specs.Field.{Fp, 𝓕, res, product-is}
 use Rattle.polynomial.specs.Coefficients.{poly}
-use Rattle.reconcile.specs.Gap.{eq-gap}
-use Rattle.reconcile.specs.InField.{sampleAt, Good}
-use Rattle.reconcile.specs.Method.{degreeOf, solvable, decoded}
-use Rattle.reconcile.specs.Stages.{rowOf, Pair, NoPair, Interpolated}
+use Rattle.gap.specs.Gap.{eq-gap}
+use Rattle.interpolation.specs.Interpolated.{sampleAt}
+use Rattle.reconcile.specs.InField.{Good}
+use Rattle.gap.specs.Gap.{degreeOf}
+use Rattle.reconcile.specs.Method.{solvable, decoded}
+use Rattle.interpolation.specs.Interpolated.{rowOf, Pair, NoPair, Interpolated}
 use Rattle.reconcile.specs.Search.{Behind, Passes, Listed, Sifted, Found, Finding}
 open Field 𝓕 using (ring as 𝓡)
 open CRing 𝓡 using (mul)

@@ -24,7 +24,9 @@ use Rattle.polynomial.specs.Coefficients.{poly, monic-some}
 use Rattle.polynomial.specs.Answers.{Among}
 use Rattle.reconcile.specs.InField.{keys-small}
 use Rattle.reconcile.specs.Method.{set-roots, set-degree}
-use Rattle.reconcile.specs.Stages.{Decides, NewTo, Agrees, Divided}
+use Rattle.lowest_terms.specs.Divided.{Divided}
+use Rattle.algebra.specs.Decided.{Decides}
+use Rattle.reconcile.specs.Stages.{NewTo, Agrees}
 use Rattle.reconcile.specs.Search.{Checked, Roots, Judged, Sifted}
 open Field 𝓕 using (ring as 𝓡)
 

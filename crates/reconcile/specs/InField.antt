@@ -1,6 +1,5 @@
 -- A difference in the field, where the argument of reconciliation stands.
 --
---   sampleAt i             sample point i + 1 as a residue
 --   res-inj, mem-res, res-mem, distinct-res    keys are as different in the field as they are as numbers
 --   Good m v               the first m values are 1 to p − 1, as in a well-formed sketch
 --   samples-of             points, values and home as the argument wants them
@@ -23,13 +22,11 @@ use Rattle.algebra.specs.Fraction.{Samples, Fits, one-theirs, one-ours}
 use Rattle.rules.specs.Numbers.{modulus, modulus-prime, point, mostSamples, Keys}
 use Rattle.rules.specs.Sketches.{value}
 use Rattle.rules.specs.Differences.{Difference}
-use Rattle.residue.specs.Field.{Fp, 𝓕, res, mul-is, product-is}
-use Rattle.reconcile.specs.Gap.{gap-eq}
+use Rattle.interpolation.specs.Interpolated.{sampleAt}
+use Rattle.residue.specs.Field.{𝓕, res, mul-is, product-is}
+use Rattle.gap.specs.Gap.{gap-eq}
 open Field 𝓕 using (ring as 𝓡)
 open CRing 𝓡 using (mul, zero)
-
-abbrev pub sampleAt : ℕ → Fp
-sampleAt i = res (point (suc i))
 
 -- the numbers of l are below p
 abbrev pub Small : List ℕ → Type 0

@@ -1,5 +1,4 @@
--- The argument (Gap, Passing, InField, Method), and what each stage of the code answers (Stages, Search).
-pub mod Gap
+-- The argument (Passing, InField, Method), and what each stage of the code answers (Stages, Search).
 pub mod Passing
 pub mod InField
 pub mod Method

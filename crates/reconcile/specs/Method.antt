@@ -1,7 +1,6 @@
 -- Why the method finds a difference wherever there is one: if theirs and ours are a difference then the linear system has a solution,
 -- and every solution, divided by the greatest common divisor, has theirs and ours for its roots.
 --
---   degreeOf m n h         (m + d) / 2, rounded down, for the gap d of n and h; (m − d) / 2 is degreeOf m h n
 --   degrees                what the two degrees are to the counts of a difference
 --   rowAt                  the equation at a sample point
 --   solvable               a difference makes the system solvable
@@ -12,7 +11,7 @@
 use mathlib.Core.Path.{_≡_, refl, sym, ap, subst, _∙_}
 use mathlib.Core.Logic.{_↔_}
 use mathlib.Core.List.{List, map}
-use Prim.Native.Nat.{ℕ, _+_, _-_, _/_, _≤_, _<_}
+use Prim.Native.Nat.{ℕ, _+_, _-_, _≤_, _<_}
 use native.Mathlib.Omega.{arith}
 use lib.ListN.{length, length-map, getD}
 use Rattle.algebra.specs.Ring.{CRing, mul-left-comm}
@@ -30,16 +29,12 @@ use Rattle.algebra.specs.Fraction.{χ, decode, roots-are}
 use Rattle.rules.specs.Numbers.{modulus, mostSamples, Keys}
 use Rattle.rules.specs.Differences.{Difference}
 use Rattle.residue.specs.Field.{Fp, 𝓕, res}
-use Rattle.reconcile.specs.Gap.{gap-eq}
-use Rattle.reconcile.specs.InField.{sampleAt, Good, keys-small, mem-res, res-mem, distinct-res, samples-of, difference-fits}
+use Rattle.gap.specs.Gap.{degreeOf, gap-eq}
+use Rattle.interpolation.specs.Interpolated.{sampleAt}
+use Rattle.reconcile.specs.InField.{Good, keys-small, mem-res, res-mem, distinct-res, samples-of, difference-fits}
 open Field 𝓕 using (ring as 𝓡, one-ne-zero)
 open CRing 𝓡 using (mul, zero, one)
 open CRing (series 𝓡) using (mul as mulˢ)
-
--- "the degrees are (m + d) / 2 and (m − d) / 2, each rounded down, after it is known that d lies in −m to m"
--- with the two sizes the other way round d changes its sign
-abbrev pub degreeOf : (m n h : ℕ) → ℕ
-degreeOf m n h = (m + n - h) / 2
 
 -- the counts of a difference, t and o: by as much as t is below the one degree, o is below the other
 pub record Degrees (m n h t o : ℕ) : Type 0 where

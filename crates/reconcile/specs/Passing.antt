@@ -25,7 +25,7 @@ use Rattle.rules.specs.declared.Sketch.{Sketch}
 use Rattle.rules.specs.declared.Refusal.the-variants.{MalformedSketch, ShortBuffer, LargeGap}
 use Rattle.rules.specs.declared.Answer.{Answer}
 use Rattle.rules.specs.declared.Answer.the-variants.{Done}
-use Rattle.reconcile.specs.Gap.{below-test, above-test}
+use Rattle.gap.specs.Gap.{below-test, above-test}
 
 pub record Passing (s : Sketch) (home : List ℕ) (theirs ours : ℕ) : Type 0 where
   pub whole : WellFormed s

@@ -26,7 +26,7 @@ use Rattle.rules.specs.Differences.{Difference}
 use Rattle.residue.specs.Field.{Fp, 𝓕, res}
 use Rattle.polynomial.specs.Coefficients.{poly}
 use Rattle.reconcile.specs.InField.{Good}
-use Rattle.reconcile.specs.Method.{degreeOf}
+use Rattle.gap.specs.Gap.{degreeOf}
 use Rattle.reconcile.specs.Stages.{NewTo, Agrees}
 open Field 𝓕 using (ring as 𝓡)
 open CRing (series 𝓡) using (mul as mulˢ)

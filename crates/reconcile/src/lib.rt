@@ -13,10 +13,6 @@ ghost use Rattle.polynomial.specs.Coefficients.{𝓡, poly};
 ghost use Rattle.reconcile.specs.InField.{Good};
 ghost use Rattle.reconcile.specs.Search.{Judged, Sifted, Finding, Searched};
 
-mod area; // copying
-mod gap; // the size gap and the two degrees
-mod system; // the two polynomials, by elimination
-mod reduction; // without their greatest common divisor
 mod verdict; // the last check
 
 // The answer, and how many keys stand in each buffer.
@@ -80,7 +76,7 @@ fn sift(
 {
     let p_all = p.len();
     let q_all = q.len();
-    let k = reduction::divided(p, q, top, bottom);
+    let k = lowest_terms::divided(p, q, top, bottom);
     let p_end = p_all - k;
     let q_end = q_all - k;
     judge(m, b, v, home, &top[..p_end], &bottom[..q_end], theirs, ours)
@@ -102,7 +98,7 @@ fn find(
     ensures { λ r. ⌜ Finding m (length (now (p .entry)) - 1) (length (now (q .entry)) - 1) (now (v .entry)) (now (home .entry)) (now (theirs .exit)) (now (ours .exit)) (r .found) (r .theirs) (r .ours) ⌝ }
 {
     let b = product::values(m, home);
-    if !system::interpolate(m, &b, v, p, q) {
+    if !interpolation::interpolate(m, &b, v, p, q) {
         return Counts {
             found: false,
             theirs: 0,

@@ -5,7 +5,8 @@ ghost use Prim.Native.Nat.{_≤_};
 ghost use lib.ListN.{length};
 ghost use Rattle.algebra.specs.Sets.{_∈_, Ascending};
 ghost use Rattle.rules.specs.Numbers.{mostSamples};
-ghost use Rattle.reconcile.specs.Stages.{Decides, NewTo, Agrees};
+ghost use Rattle.algebra.specs.Decided.{Decides};
+ghost use Rattle.reconcile.specs.Stages.{NewTo, Agrees};
 ghost use Rattle.reconcile.specs.Search.{Checked};
 
 // Whether an ascending list holds a key, by halving.

@@ -15,7 +15,7 @@ use lib.ListN.{length, take, drop}
 use lib.Seq.{take-all, paste, take-paste}
 use Rattle.rules.specs.Entries.{keysOf, bytesOf}
 use Rattle.rules.specs.Packed.{keys-length, bytes-length}
-use Rattle.reconcile.proofs.Copies.{Copied, copied-all}
+use Rattle.area.proofs.Copies.{Copied, copied-all}
 
 take-least : (l : List ℕ) (room : ℕ) → take (min (length l) room) l ≡ take room l
 take-least l room =

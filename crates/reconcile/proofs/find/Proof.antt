@@ -8,7 +8,7 @@ use borrow.Author.Needs.{needs}
 use borrow.Author.Tests.{not-true, not-false}
 use Rattle.rules.specs.Numbers.{mostSamples}
 use Rattle.rules.specs.Formed.{slots-length}
-use Rattle.reconcile.specs.Stages.{Pair}
+use Rattle.interpolation.specs.Interpolated.{Pair}
 use Rattle.reconcile.proofs.Searching.{pair-yes, pair-no, monic-first, monic-second, none-found, pair-found}
 use Rattle.reconcile.proofs.find.Statement.{statement}
 use Rattle.reconcile.proofs.find.Tie as tie

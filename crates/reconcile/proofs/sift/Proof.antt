@@ -6,7 +6,7 @@ use native.Mathlib.Omega.{arith}
 use lib.ListN.{length}
 use lib.Seq.{length-take-le}
 use borrow.Author.Needs.{needs}
-use Rattle.reconcile.specs.Stages.{Divided}
+use Rattle.lowest_terms.specs.Divided.{Divided}
 use Rattle.reconcile.proofs.Sifting.{front-monic, sifted}
 use Rattle.reconcile.proofs.sift.Statement.{statement}
 use Rattle.reconcile.proofs.sift.Tie as tie

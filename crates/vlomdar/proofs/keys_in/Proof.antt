@@ -8,7 +8,7 @@ use borrow.Author.Needs.{needs}
 use lib.ListN.{set}
 use Rattle.rules.specs.Entries.{keysOf}
 use Rattle.rules.specs.Packed.{keys-length, keys-at}
-use Rattle.reconcile.proofs.Copies.{Copied, copied-none, copied-more}
+use Rattle.area.proofs.Copies.{Copied, copied-none, copied-more}
 use Rattle.vlomdar.proofs.Keys.{keys-taken}
 use Rattle.vlomdar.proofs.keys_in.Statement.{statement}
 use Rattle.vlomdar.proofs.keys_in.Tie as tie

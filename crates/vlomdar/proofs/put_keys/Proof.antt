@@ -8,7 +8,7 @@ use borrow.Author.Needs.{needs}
 use lib.ListN.{set}
 use Rattle.rules.specs.Entries.{bytesOf}
 use Rattle.rules.specs.Packed.{bytes-length, bytes-at}
-use Rattle.reconcile.proofs.Copies.{Copied, copied-none, copied-more}
+use Rattle.area.proofs.Copies.{Copied, copied-none, copied-more}
 use Rattle.vlomdar.proofs.Keys.{bytes-put}
 use Rattle.vlomdar.proofs.put_keys.Statement.{statement}
 use Rattle.vlomdar.proofs.put_keys.Tie as tie

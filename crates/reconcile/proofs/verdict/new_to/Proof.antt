@@ -3,7 +3,7 @@
 use mathlib.Core.Path.{subst}
 use Rattle.algebra.specs.Sets.{_∈_}
 use Rattle.reconcile.proofs.Checks.{NewBelow, new-more, new-all, not-new}
-use Rattle.reconcile.specs.Stages.{Decides}
+use Rattle.algebra.specs.Decided.{Decides}
 use Prim.Native.Nat.{_-_, _≤_}
 use native.Mathlib.Omega.{arith}
 use borrow.Author.Needs.{needs}

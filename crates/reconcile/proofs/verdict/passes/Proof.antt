@@ -6,7 +6,8 @@ use Prim.Native.Nat.{ℕ}
 use lib.ListN.{length}
 use borrow.Author.Needs.{needs}
 use borrow.Author.Tests.{not-true, not-false}
-use Rattle.reconcile.specs.Stages.{Decides, decided-yes, decided-no, NewTo, Agrees}
+use Rattle.algebra.specs.Decided.{Decides, decided-yes, decided-no}
+use Rattle.reconcile.specs.Stages.{NewTo, Agrees}
 use Rattle.reconcile.specs.Search.{Checked}
 use Rattle.reconcile.proofs.verdict.passes.Statement.{statement}
 use Rattle.reconcile.proofs.verdict.passes.Tie as tie
