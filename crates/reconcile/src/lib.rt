@@ -97,7 +97,7 @@ fn find(
     requires { ⌜ (m ≤ mostSamples) × (m ≤ length (now v)) × LegalList (now home) × (1 ≤ length (now p)) × (1 ≤ length (now q)) × (length (now p) + length (now q) ≤ m + 2) × (length (now top) ≡ length (now p)) × (length (now bottom) ≡ length (now q)) × (length (now theirs) ≡ mostSamples) × (length (now ours) ≡ mostSamples) ⌝ }
     ensures { λ r. ⌜ Finding m (length (now (p .entry)) - 1) (length (now (q .entry)) - 1) (now (v .entry)) (now (home .entry)) (now (theirs .exit)) (now (ours .exit)) (r .found) (r .theirs) (r .ours) ⌝ }
 {
-    let b = product::values(m, home);
+    let b = sketch::values(m, home);
     if !interpolation::interpolate(m, &b, v, p, q) {
         return Counts {
             found: false,
