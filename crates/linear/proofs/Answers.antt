@@ -1,55 +1,103 @@
--- What the span says once every equation is taken in.
+-- How the relations follow the equations, and what they say at the end.
 --
---   insoluble      no row of the span has a last part other than 0: no vector meets the equations
---   solution       such a row, scaled to have −1 there, meets them
+--   related-none           before any equation, zeros
+--   kept-row, last-row     an equation that says an unknown by those after it; one that says nothing new, or what no vector meets
+--   refuted-on             what no vector meets, none meets with more equations
+--   solution, no-solution  the answer of `solve`, either way
 --
 -- Assumes nothing.
-use mathlib.Core.Path.{_≡_, refl, ap, ap₂, subst, _∙_}
+use mathlib.Core.Path.{_≡_, refl, sym, ap, ap₂, subst, _∙_}
+use mathlib.Core.Bool.{Bool, true, false}
 use mathlib.Core.List.{List}
-use Prim.Native.Nat.{ℕ, suc, _+_, _*_, _≤_, _<_}
-use native.Mathlib.Nat.{mod-lt}
+use Prim.Native.Nat.{ℕ, _+_, _*_, _-_, _%_, _≤_, _<_}
+use native.Mathlib.Nat.{mod-lt, add-sub-cancel-left}
 use native.Mathlib.Numerals.{add-one}
 use native.Mathlib.Omega.{arith}
-use lib.Dec.{lit<}
+use native.Mathlib.Decide.{decLt}
+use lib.Dec.{lit<, eqb}
 use lib.ListN.{length, getD}
+use borrow.Author.Tests.{eqb-true, eqb-false}
 use Rattle.algebra.specs.Ring.{CRing}
 use Rattle.algebra.specs.Field.{Field}
 use Rattle.algebra.specs.Solver.{_⊝_, _⊗_, ⊖, #0, by-ring}
-use Rattle.algebra.specs.Arithmetic.{inverseOf, subOf}
-use Rattle.algebra.specs.Linear.{Spans, Solves, found, meets, meets-none}
+use Rattle.algebra.specs.Arithmetic.{inverseOf, mulOf}
+use Rattle.algebra.specs.Linear.{Solves, meets}
 use Rattle.rules.specs.Numbers.{modulus}
-use Rattle.residue.specs.Field.{Fp, 𝓕, res, zero-is, sub-is, mul-is, inverse-is}
+use Rattle.residue.specs.Field.{𝓕, res, zero-is, sub-is, mul-is, inverse-is, res-eq-zero, eq-zero-res}
 use Rattle.linear.specs.Solved.{vector, matrix, Solution, Insoluble}
-use Rattle.linear.specs.Rows.{Solving, Scaled, Spanned}
-open Field 𝓕 using (ring as 𝓡, inv, inv-mul, one-ne-zero)
-open CRing 𝓡 using (add, mul, neg, one as 𝟙)
+use Rattle.linear.specs.Echelon.{Sifted, echelon-none, sifted-of, kept, passed, refuted, closed-all, insoluble}
+use Rattle.linear.specs.Rows.{minusInverse, Zeros, Loaded, Scaled, Related, SiftedTo, Refuted, Reduced, Substituted}
+use Rattle.linear.proofs.Piles.{res-mod}
+use Rattle.linear.proofs.Places.{inside}
+open Field 𝓕 using (ring as 𝓡, inv, inv-mul)
+open CRing 𝓡 using (add, mul, neg, zero, one)
 
--- the theory counts the columns as the successor of c
-columns : {m : ℕ} {rows n : List ℕ} (c : ℕ) → Spanned (c + 1) m rows n → Spans 𝓡 (suc c) m (matrix (c + 1) rows) (matrix (c + 1) n)
-columns {m} {rows} {n} c s = subst (λ (w : ℕ). Spans 𝓡 w m (matrix (c + 1) rows) (matrix (c + 1) n)) (add-one c) (s .spans)
+pub related-none : {c : ℕ} {rows rel₀ rel : List ℕ} → length rel₀ ≡ c * (c + 1) → Zeros rel₀ rel → Related c 0 rows rel
+related-none {c} {rows} {rel₀} {rel} long z = record {
+  reduced = λ k l. rw (z .new k (omega arith) (omega (arith, z .len))) (lit< tt);
+  echelon = echelon-none 𝓡 (omega arith) (λ p j l m. ap res (z .new (p * (c + 1) + j) (omega arith) (omega (arith, inside p c (c + 1) l))) ∙ zero-is);
+}
 
-module _ {c m k : ℕ} {rows n x : List ℕ} (long : length x ≡ c + 1) (s : Spanned (c + 1) m rows n) (q : Solving c n k) where
-  pub insoluble : c + 1 ≤ k → Insoluble c m rows x
-  insoluble h = record {
-    none = meets-none 𝓡 c m (matrix (c + 1) rows) (matrix (c + 1) n) (columns c s) one-ne-zero (λ j l. q .before .passed j (omega arith));
-    long = long;
-  }
+-- −1 / x times x
+minus-one : {f : ℕ} (x : ℕ) → f ≡ minusInverse x → ¬ (res x ≡ zero) → mul (res f) (res x) ≡ neg one
+minus-one x e n =
+    ap (λ u. mul u (res x)) (ap res e ∙ sub-is 0 (inverseOf modulus (x % modulus)) ∙ ap₂ (λ u v. add u (neg v)) zero-is (inverse-is (x % modulus) ∙ ap inv (res-mod x)))
+    ∙ by-ring 𝓡 2 (λ i x. ((#0 ⊝ i) ⊗ x, ⊖ (i ⊗ x))) refl (inv (res x)) (res x)
+    ∙ ap neg (inv-mul (res x) n)
 
-  pub solution : {e g f : ℕ} {x₀ : List ℕ} → k < c + 1 → e ≡ getD n (k * (c + 1) + c) 0 → g ≡ inverseOf modulus e → f ≡ subOf modulus 0 g → Scaled (c + 1) n k f x₀ x → Solution c m rows x
-  solution {e} {g} {f} {x₀} h end inverse minus scaling = record {
-    meets = meets 𝓡 c m (matrix (c + 1) rows) (vector x) (both .1) (both .0);
-    reduced = λ j l. rw (scaling .new j (omega arith) (omega arith)) (mod-lt _ (lit< tt));
-    long = long;
+module _ {c i p : ℕ} {rows rel d₀ d₁ d : List ℕ} (s : Related c i rows rel) (l : Loaded (c + 1) rows i d₀ d₁) (z : SiftedTo c rel d₁ d p) where
+  -- what is left of row i
+  left : Sifted 𝓡 (c + 1) c p (matrix (c + 1) rel) (matrix (c + 1) rows i) (vector d)
+  left = sifted-of 𝓡 (matrix (c + 1) rows i) (λ j k. ap res (l .new j (omega arith) k .value)) (z .sifting .sifted)
+
+  pub kept-row : {f : ℕ} {rel′ : List ℕ} → p < c → f ≡ minusInverse (getD d p 0) → Scaled (c + 1) d p f rel rel′ → Related c (i + 1) rows rel′
+  kept-row {f} {rel′} m e r = record {
+    reduced = λ k o. elim (decLt k (p * (c + 1))) [
+      | yes b ↦ before k o (λ a. omega (arith, b))
+      | no a ↦ elim (decLt k (p * (c + 1) + (c + 1))) [
+        | yes b ↦ rw (r .new k (omega (arith, a)) b) (mod-lt _ (lit< tt))
+        | no b ↦ before k o (λ _. omega (arith, b))
+      ]
+    ];
+    echelon = rw (add-one i) (kept 𝓕 (s .echelon) m left (matrix (c + 1) rel′) (res f) (omega arith) (z .unused m) (minus-one (getD d p 0) e (z .left m)) new old);
   }
     where
-      last : Fp
-      last = matrix (c + 1) n k c
+      before : (k : ℕ) → k < length rel′ → (p * (c + 1) ≤ k → p * (c + 1) + (c + 1) ≤ k) → getD rel′ k 0 < modulus
+      before k o h = rw (r .old k h) (s .reduced k (omega (arith, r .len)))
 
-      minus-one : mul (res f) last ≡ neg 𝟙
-      minus-one = ap (λ z. mul z last) (ap res minus ∙ sub-is 0 g ∙ ap₂ (λ y z. add y (neg z)) zero-is (ap res inverse ∙ inverse-is e ∙ ap (λ (z : ℕ). inv (res z)) end))
-          ∙ by-ring 𝓡 2 (λ i l. ((#0 ⊝ i) ⊗ l, ⊖ (i ⊗ l))) refl (inv last) last
-          ∙ ap neg (inv-mul last (q .hit (omega arith)))
+      new : (j : ℕ) → j < c + 1 → matrix (c + 1) rel′ p j ≡ mul (res f) (vector d j)
+      new j o = ap res (r .new (p * (c + 1) + j) (omega arith) (omega arith) ∙ ap (λ (k : ℕ). mulOf modulus f (getD d k 0 % modulus)) (add-sub-cancel-left (p * (c + 1)) j))
+          ∙ mul-is f (getD d j 0 % modulus) ∙ ap (mul (res f)) (res-mod (getD d j 0))
 
-      both : Solves 𝓡 (suc c) m (matrix (c + 1) rows) (vector x) × (vector x c ≡ neg 𝟙)
-      both = found 𝓡 (suc c) m (matrix (c + 1) rows) (matrix (c + 1) n) (columns c s) c k (omega arith) (omega arith) (vector x) (res f) (neg 𝟙)
-          (λ j l. ap res (scaling .new j (omega arith) (omega arith)) ∙ mul-is f _) minus-one
+      old : (q j : ℕ) → q < c → ¬ (q ≡ p) → j < c + 1 → matrix (c + 1) rel′ q j ≡ matrix (c + 1) rel q j
+      old q j k n o = ap res (r .old (q * (c + 1) + j) (λ a. elim (decLt q p) [
+        | yes b ↦ omega (arith, inside q p (c + 1) b)
+        | no b ↦ omega (arith, inside p q (c + 1) (omega (arith, b, n)))
+      ]))
+
+  pub last-row : {f : ℕ} → c ≤ p → f ≡ getD d c 0 % modulus → Reduced c (i + 1) rows rel (eqb f 0)
+  last-row {f} h e = go (eqb f 0) refl
+    where
+      end : p ≡ c
+      end = omega (arith, z .sifting .bound)
+
+      all : Sifted 𝓡 (c + 1) c c (matrix (c + 1) rel) (matrix (c + 1) rows i) (vector d)
+      all = rw end at left
+
+      go : (b : Bool) → eqb f 0 ≡ b → Reduced c (i + 1) rows rel b
+      go true t = record { reduced = s .reduced; echelon = rw (add-one i) (passed 𝓕 (s .echelon) (add-one c) all (res-eq-zero (getD d c 0) (sym e ∙ eqb-true f 0 t))) }
+      go false t = record { none = rw (add-one i) (refuted 𝓕 (s .echelon) (add-one c) all (λ y. eqb-false f 0 t (e ∙ eq-zero-res (getD d c 0) y))) }
+
+pub refuted-on : {c t m : ℕ} {rows : List ℕ} → t ≤ m → Refuted c t rows → Refuted c m rows
+refuted-on h s = record { none = λ y e. s .none y (λ i l. e i (omega arith)) }
+
+module _ {c m : ℕ} {rows x : List ℕ} where
+  pub solution : {rel : List ℕ} → Related c m rows rel → Substituted c 0 rel x → Solution c m rows x
+  solution {rel} s z = record {
+    meets = meets 𝓡 c m (matrix (c + 1) rows) (vector x) (z .closed .last) (subst (λ (w : ℕ). Solves 𝓡 w m (matrix (c + 1) rows) (vector x)) (add-one c) (closed-all 𝓕 (s .echelon) (z .closed)));
+    reduced = λ k l. z .reduced k (omega (arith, z .long));
+    long = z .long;
+  }
+
+  pub no-solution : length x ≡ c + 1 → Refuted c m rows → Insoluble c m rows x
+  no-solution long s = record { none = insoluble 𝓕 c m m (matrix (c + 1) rows) (omega arith) (λ y e. s .none y (subst (λ (w : ℕ). Solves 𝓡 w m (matrix (c + 1) rows) y) (sym (add-one c)) e)); long = long }

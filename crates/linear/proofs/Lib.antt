@@ -1,6 +1,4 @@
 pub mod Places
-pub mod Sums
-pub mod Search
-pub mod Diagonal
-pub mod Spanning
+pub mod Piles
+pub mod Relations
 pub mod Answers

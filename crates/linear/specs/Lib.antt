@@ -1,2 +1,3 @@
 pub mod Solved
+pub mod Echelon
 pub mod Rows
