@@ -3,7 +3,8 @@
 #   make                   target/staticlib/libvlomdar.a (proves the library first) and build/exchange
 #   make check             header as C and C++, example against its expected output, entries against document 01, an installation
 #   make against           a second implementation against the archive and the night report (tests/README.md), under valgrind, and a minute of damaged inputs
-#   make bench             what a sketch costs beside plain C++ (prints times; fails only on a wrong answer)
+#   make bench             times beside plain C++, NTL and FLINT, and a picture of them (docs/PERFORMANCE.md; fails only on a wrong answer)
+#   make figures           the same, and this run's results put into bench/results.csv, docs/performance.svg and the tables of the page
 #   make install PREFIX=.. header, archive, vlomdar.pc, the program night_report and man pages; DESTDIR is put before PREFIX
 #   make clean             removes build/
 
@@ -21,7 +22,7 @@ ARCHIVE = target/staticlib/libvlomdar.a
 REPORT = target/bin/night_report
 SOURCES = crates.txt $(shell find crates -name '*.rt' -o -name '*.antt')
 
-.PHONY: all check check-header check-example check-entries check-install against bench install clean
+.PHONY: all check check-header check-example check-entries check-install against bench-packages bench figures install clean
 
 all: $(ARCHIVE) build/exchange
 
@@ -78,11 +79,31 @@ against: $(ARCHIVE) $(REPORT)
 	cd tests && $(AGAINST) valgrind --quiet --error-exitcode=9 target/release/against short
 	cd tests && $(AGAINST) target/release/against fuzz seconds 60
 
-build/bench: bench/sketch.cpp include/vlomdar.h $(ARCHIVE) | build
-	$(CXX) -std=c++11 $(WARN) $(CXXFLAGS) -Iinclude -o $@ bench/sketch.cpp $(ARCHIVE)
+# The benchmark. The peers are compiled for the processor that the archive is for, any x86-64.
+BENCH = build/bench/bench
+BENCHFLAGS ?= -O3
+BENCH_OBJECTS = $(patsubst %.cpp,build/%.o,$(wildcard bench/*.cpp bench/plain/*.cpp))
 
-bench: build/bench
-	build/bench
+bench-packages:
+	@sh bench/packages.sh $(CXX)
+
+$(BENCH_OBJECTS): build/%.o: %.cpp | bench-packages
+	mkdir -p $(@D)
+	$(CXX) -std=c++17 $(WARN) $(BENCHFLAGS) -MMD -MP -Iinclude -c -o $@ $<
+
+-include $(BENCH_OBJECTS:.o=.d)
+
+$(BENCH): $(BENCH_OBJECTS) $(ARCHIVE)
+	$(CXX) -o $@ $^ -lntl -lflint -lgmp -lpthread
+
+bench: $(BENCH)
+	$(BENCH) --csv build/bench/results.csv
+	python3 bench/plot.py build/bench/results.csv build/bench/performance.svg
+
+figures: bench
+	cp build/bench/results.csv bench/results.csv
+	cp build/bench/performance.svg docs/performance.svg
+	python3 -B bench/page.py bench/results.csv docs/PERFORMANCE.md
 
 install: $(ARCHIVE) $(REPORT)
 	install -d $(DESTDIR)$(PREFIX)/bin $(DESTDIR)$(PREFIX)/include $(DESTDIR)$(PREFIX)/lib/pkgconfig $(DESTDIR)$(PREFIX)/share/man/man1 $(DESTDIR)$(PREFIX)/share/man/man3

@@ -1,0 +1,14 @@
+// The roots of a polynomial.
+#ifndef BENCH_PLAIN_ROOTS_H
+#define BENCH_PLAIN_ROOTS_H
+
+#include "polynomial.h"
+
+namespace plain {
+
+// All roots of a monic polynomial, in no order; false where it has fewer different ones than its degree.
+bool find_roots(const Polynomial &polynomial, Keys &roots);
+
+} // namespace plain
+
+#endif
