@@ -3,10 +3,7 @@
 --   longest            room for the longest message
 --   written-fits       no message is longer
 --   sketch-sized       a sketch that a list gave has its 64 values
---   Fit left           no more keys are counted than stand in the buffers
---   told-fits          so it is with all that reconcile leaves
 --   part-length        the first n keys of a list are within a bound where n is
---   false-not-true     for answers of false where a contract speaks of true
 --
 -- Assumes nothing.
 use mathlib.Core.Path.{_≡_, refl, ap, _∙_}
@@ -50,36 +47,6 @@ given-sized (Refused r) plan keys = refl
 
 pub sketch-sized : (plan : ℕ) (keys : List ℕ) (s : Sketch) → s ≡ sketchResult plan keys → length (s .values) ≡ mostSamples
 sketch-sized plan keys s e = ap (λ (s : Sketch). length (s .values)) e ∙ given-sized (sketchAnswer plan keys) (planOf plan) keys
-
-pub record Fit (left : Left) : Type 0 where
-  pub theirs : left .theirs-count ≤ length (left .theirs)
-  pub ours : left .ours-count ≤ length (left .ours)
-
-refused-fits : (r : Refusal) (theirs ours : List ℕ) (left : Left) → Refuses r theirs ours left → Fit left
-refused-fits r theirs ours left x =
-    let a = x .theirs-none in
-    let b = x .ours-none in
-    record { theirs = omega arith; ours = omega arith }
-
-found-fits : (s : Sketch) (home theirs ours : List ℕ) (left : Left) → Finds s home theirs ours left → Fit left
-found-fits s home theirs ours left x =
-    let new = ap length (x .theirs-filled) ∙ length-append (x .new) (drop (length (x .new)) theirs) in
-    let held = ap length (x .ours-filled) ∙ length-append (x .held) (drop (length (x .held)) ours) in
-    let a = x .theirs-count in
-    let b = x .ours-count in
-    record { theirs = omega arith; ours = omega arith }
-
-pub told-fits : (s : Sketch) (home theirs ours : List ℕ) (left : Left) → Reconciles s home theirs ours left → Fit left
-unfolding Reconciles
-told-fits s home theirs ours left = go (reconcileTests s home (length theirs) (length ours))
-  where
-    go : (a : Answer) → After a s home theirs ours left → Fit left
-    go (Refused r) x = refused-fits r theirs ours left x
-    go Done (inl x) = found-fits s home theirs ours left x
-    go Done (inr x) = refused-fits _ theirs ours left (x .1)
-
-pub false-not-true : false ≡ true → ⊥
-false-not-true e = let z : _≡_ {A = ℕ} 0 1 = cc in omega arith
 
 pub part-length : (n most : ℕ) (l : List ℕ) → n ≤ length l → n ≤ most → length (take n l) ≤ most
 part-length n most l h few = let e = length-take-le n l h in omega arith

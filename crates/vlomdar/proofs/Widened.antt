@@ -2,7 +2,6 @@
 --
 --   Lent s home theirs ours h t o      h is home cut to one key more than may be; t and o have room as theirs and ours have, up to the largest m
 --   tests-same             the tests answer alike
---   Bounds, bounds         no more keys are counted than a plan can have samples, than there is room for, or than stand in the buffers; every place has 24 bits
 --   widened, widen         the outcome with the caller's buffers, and that it is one
 --
 -- Assumes nothing.
@@ -33,6 +32,7 @@ use Rattle.rules.specs.declared.Refusal.the-variants.{LongList, MalformedSketch
 use Rattle.rules.specs.declared.Answer.{Answer}
 use Rattle.rules.specs.declared.Answer.the-variants.{Done, Refused}
 use Rattle.reconcile.specs.Passing.{Passing, passing}
+use Rattle.reconcile.specs.Bounds.{Bounds, bounds}
 use Rattle.vlomdar.proofs.Composed.{too-long}
 
 pub record Lent (home theirs ours h t o : List ℕ) : Type 0 where
@@ -73,16 +73,6 @@ tests-rooms s home theirs ours =
     then when (ltZ (gapOf (s .size) home) (negℤ (pos (samples (s .plan)))) || ltZ (pos (samples (s .plan))) (gapOf (s .size) home)) LargeGap)
     (room-test (samples (s .plan)) theirs most) (room-test (samples (s .plan)) ours most)
 
--- what a call left is within its two buffers
-pub record Bounds (t o : List ℕ) (left : Left) : Type 0 where
-  pub theirs-few : left .theirs-count ≤ mostSamples
-  pub ours-few : left .ours-count ≤ mostSamples
-  pub theirs-fit : left .theirs-count ≤ length t
-  pub ours-fit : left .ours-count ≤ length o
-  pub theirs-stand : left .theirs-count ≤ length (left .theirs)
-  pub ours-stand : left .ours-count ≤ length (left .ours)
-  pub small : SmallPlace (left .answer)
-
 -- what a call left, in other buffers
 abbrev pub widened : List ℕ → List ℕ → Left → Left
 widened theirs ours left = record {
@@ -92,34 +82,6 @@ widened theirs ours left = record {
   theirs = take (left .theirs-count) (left .theirs) ++ drop (left .theirs-count) theirs;
   ours = take (left .ours-count) (left .ours) ++ drop (left .ours-count) ours;
 }
-
-module _ (s : Sketch) (h t o : List ℕ) where
-  refused-bounds : (r : Refusal) (left : Left) → SmallPlace (Refused r) → Refuses r t o left → Bounds t o left
-  refused-bounds r left p x =
-      let a = x .theirs-none in
-      let b = x .ours-none in
-      record { theirs-few = omega arith; ours-few = omega arith; theirs-fit = omega arith; ours-fit = omega arith; theirs-stand = omega arith; ours-stand = omega arith; small = subst SmallPlace (sym (x .answer)) p }
-
-  found-bounds : (left : Left) → Passing s h (length t) (length o) → Finds s h t o left → Bounds t o left
-  found-bounds left p x =
-      let few = x .difference .bound in
-      let most = samples-most (s .plan) in
-      let new = ap length (x .theirs-filled) ∙ length-append (x .new) (drop (length (x .new)) t) in
-      let held = ap length (x .ours-filled) ∙ length-append (x .held) (drop (length (x .held)) o) in
-      let a = x .theirs-count in
-      let b = x .ours-count in
-      let tr = p .theirs-room in
-      let or = p .ours-room in
-      record { theirs-few = omega arith; ours-few = omega arith; theirs-fit = omega arith; ours-fit = omega arith; theirs-stand = omega arith; ours-stand = omega arith; small = subst SmallPlace (sym (x .answer)) (lit< tt) }
-
-  pub bounds : (left : Left) → Reconciles s h t o left → Bounds t o left
-  unfolding Reconciles
-  bounds left = go (reconcileTests s h (length t) (length o)) refl
-    where
-      go : (a : Answer) → reconcileTests s h (length t) (length o) ≡ a → After a s h t o left → Bounds t o left
-      go (Refused r) e x = refused-bounds r left (subst SmallPlace e (small-reconcile s h (length t) (length o))) x
-      go Done e (inl x) = found-bounds left (passing s h (length t) (length o) e) x
-      go Done e (inr x) = refused-bounds NoDifference left (lit< tt) (x .1)
 
 module _ (s : Sketch) (home theirs ours h t o : List ℕ) (lent : Lent home theirs ours h t o) where
   pub tests-same : reconcileTests s h (length t) (length o) ≡ reconcileTests s home (length theirs) (length ours)

@@ -3,7 +3,7 @@ use mathlib.Core.Path.{sym}
 use Prim.Native.Nat.{_-_}
 use lib.Seq.{length-take-le}
 use borrow.Author.Needs.{needs}
-use Rattle.cases.proofs.Room.{told-fits}
+use Rattle.reconcile.specs.Bounds.{bounds}
 use Rattle.cases.proofs.agreement.Statement.{statement}
 use Rattle.cases.proofs.agreement.Tie as tie
 
@@ -41,7 +41,7 @@ returns : tie.Need-returns
 returns c = search needs
 
 array-share-prefix-theirs : tie.Need-array-share-prefix-theirs
-array-share-prefix-theirs c = told-fits _ _ _ _ _ (c .before .before .before .before .before .before .before .before .before .before .reconcile .ensures) .theirs
+array-share-prefix-theirs c = bounds _ _ _ _ _ (c .before .before .before .before .before .before .before .before .before .before .reconcile .ensures) .theirs-stand
 
 slice-aggregate-same : tie.Need-slice-aggregate-same
 slice-aggregate-same c = sym (length-take-le _ _ (array-share-prefix-theirs (c .before)))
@@ -59,7 +59,7 @@ returns-2 : tie.Need-returns-2
 returns-2 c = search needs
 
 array-share-prefix-ours : tie.Need-array-share-prefix-ours
-array-share-prefix-ours c = told-fits _ _ _ _ _ (c .before .before .before .before .before .before .before .before .before .before .before .before .before .before .reconcile .ensures) .ours
+array-share-prefix-ours c = bounds _ _ _ _ _ (c .before .before .before .before .before .before .before .before .before .before .before .before .before .before .reconcile .ensures) .ours-stand
 
 slice-aggregate-same-3 : tie.Need-slice-aggregate-same-3
 slice-aggregate-same-3 c = sym (length-take-le _ _ (array-share-prefix-ours (c .before)))

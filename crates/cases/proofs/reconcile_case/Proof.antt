@@ -4,7 +4,7 @@ use Prim.Native.Nat.{_-_}
 use native.Mathlib.Omega.{arith}
 use lib.Seq.{length-take-le}
 use borrow.Author.Needs.{needs}
-use Rattle.cases.proofs.Room.{told-fits}
+use Rattle.reconcile.specs.Bounds.{bounds}
 use Rattle.cases.proofs.reconcile_case.Statement.{statement}
 use Rattle.cases.proofs.reconcile_case.Tie as tie
 
@@ -42,7 +42,7 @@ write-all-requires-2 : tie.Need-write-all-requires-2
 write-all-requires-2 c κs = search needs
 
 array-share-prefix-theirs : tie.Need-array-share-prefix-theirs
-array-share-prefix-theirs c = told-fits _ _ _ _ _ (c .before .before .before .before .before .before .before .reconcile .ensures) .theirs
+array-share-prefix-theirs c = bounds _ _ _ _ _ (c .before .before .before .before .before .before .before .reconcile .ensures) .theirs-stand
 
 slice-aggregate-print-keys : tie.Need-slice-aggregate-print-keys
 slice-aggregate-print-keys c = sym (length-take-le _ _ (array-share-prefix-theirs (c .before)))
@@ -57,7 +57,7 @@ write-all-requires-3 : tie.Need-write-all-requires-3
 write-all-requires-3 c κs = search needs
 
 array-share-prefix-ours : tie.Need-array-share-prefix-ours
-array-share-prefix-ours c = told-fits _ _ _ _ _ (c .before .before .before .before .before .before .before .before .before .before .before .reconcile .ensures) .ours
+array-share-prefix-ours c = bounds _ _ _ _ _ (c .before .before .before .before .before .before .before .before .before .before .before .reconcile .ensures) .ours-stand
 
 slice-aggregate-print-keys-2 : tie.Need-slice-aggregate-print-keys-2
 slice-aggregate-print-keys-2 c = sym (length-take-le _ _ (array-share-prefix-ours (c .before)))
@@ -72,10 +72,10 @@ write-all-requires-4 : tie.Need-write-all-requires-4
 write-all-requires-4 c κs = search needs
 
 add-result : tie.Need-add-result
-add-result c = let fit = told-fits _ _ _ _ _ (c .before .before .before .before .before .before .before .before .before .before .before .before .before .before .before .reconcile .ensures) in omega (arith, fit .theirs, fit .ours)
+add-result c = let fit = bounds _ _ _ _ _ (c .before .before .before .before .before .before .before .before .before .before .before .before .before .before .before .reconcile .ensures) in omega (arith, fit .theirs-stand, fit .ours-stand)
 
 returns-2 : tie.Need-returns-2
-returns-2 c = let fit = told-fits _ _ _ _ _ (c .before .before .before .before .before .before .before .before .before .before .before .before .before .before .before .reconcile .ensures) in omega (arith, fit .theirs, fit .ours)
+returns-2 c = let fit = bounds _ _ _ _ _ (c .before .before .before .before .before .before .before .before .before .before .before .before .before .before .before .reconcile .ensures) in omega (arith, fit .theirs-stand, fit .ours-stand)
 
 pub reconcile-case-spec : {M : Type 1} → statement M
 reconcile-case-spec =

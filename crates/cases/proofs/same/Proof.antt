@@ -3,7 +3,7 @@ use mathlib.Core.Path.{_≡_}
 use Prim.Native.Nat.{_-_, _≤_}
 use borrow.Author.Needs.{needs}
 use lib.ListN.{length}
-use Rattle.cases.proofs.Room.{false-not-true}
+use Rattle.algebra.specs.Decided.{false-not-true}
 use Rattle.cases.proofs.same.Statement.{statement}
 use Rattle.cases.proofs.same.Tie as tie
 

@@ -1,7 +1,7 @@
 -- `cases::stands` meets its contract: past the end it answers false. Assumes nothing.
 use Prim.Native.Nat.{_-_}
 use borrow.Author.Needs.{needs}
-use Rattle.cases.proofs.Room.{false-not-true}
+use Rattle.algebra.specs.Decided.{false-not-true}
 use Rattle.cases.proofs.stands.Statement.{statement}
 use Rattle.cases.proofs.stands.Tie as tie
 

@@ -7,6 +7,7 @@ use borrow.Author.Needs.{needs}
 use lib.ListN.{getD}
 use mathlib.Core.Bool.{true, false}
 use borrow.Author.Count.{below-more}
+use Rattle.algebra.specs.Decided.{false-not-true}
 use Rattle.rules.specs.Numbers.{mostSamples}
 use Rattle.running.proofs.same.Statement.{statement}
 use Rattle.running.proofs.same.Tie as tie
@@ -16,9 +17,6 @@ Inv-loop x y i₀ i = (i ≤ mostSamples) × ((k : ℕ) → k < i → getD (x .v
 
 abbrev μ-loop : tie.MeasureT-loop
 μ-loop x y i₀ i = mostSamples - i
-
-false-not-true : false ≡ true → ⊥
-false-not-true e = let z : _≡_ {A = ℕ} 0 1 = cc in omega arith
 
 number-requires : tie.Need-number-requires Inv-loop μ-loop
 number-requires c κs = search needs
