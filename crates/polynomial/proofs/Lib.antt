@@ -4,4 +4,3 @@ pub mod Places
 pub mod Multiples
 pub mod Reduction
 pub mod Division
-pub mod Finding

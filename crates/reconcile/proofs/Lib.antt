@@ -1,7 +1,5 @@
--- Laws that proofs of this crate share: of the order of tests; of lists and parts of slices; of the system; of the divided pair; of the search.
+-- Laws that proofs of this crate share: of the order of tests (Order), of the divided pair (Sifting), of the search (Searching), of the answer (Outcomes).
 pub mod Order
-pub mod Members
-pub mod Checks
 pub mod Sifting
 pub mod Searching
 pub mod Outcomes

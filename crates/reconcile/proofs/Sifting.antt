@@ -21,13 +21,13 @@ use Rattle.algebra.specs.Fraction.{χ}
 use Rattle.rules.specs.Numbers.{LegalKey, Keys}
 use Rattle.residue.specs.Field.{𝓕, res}
 use Rattle.polynomial.specs.Coefficients.{poly, monic-some}
-use Rattle.polynomial.specs.Answers.{Among}
+use Rattle.roots.specs.Answers.{Among}
 use Rattle.reconcile.specs.InField.{keys-small}
 use Rattle.reconcile.specs.Method.{set-roots, set-degree}
 use Rattle.lowest_terms.specs.Divided.{Divided}
 use Rattle.algebra.specs.Decided.{Decides}
-use Rattle.reconcile.specs.Stages.{NewTo, Agrees}
-use Rattle.reconcile.specs.Search.{Checked, Roots, Judged, Sifted}
+use Rattle.verdict.specs.Checked.{NewTo, Agrees, Checked}
+use Rattle.reconcile.specs.Search.{Roots, Judged, Sifted}
 open Field 𝓕 using (ring as 𝓡)
 
 size : {C : ℕ → Type 0} {p out out′ : List ℕ} {n : ℕ} → Among C p out out′ n → length (take n out′) ≡ n

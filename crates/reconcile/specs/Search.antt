@@ -1,6 +1,5 @@
 -- What the search for a difference answers: the divided pair of a solution, its roots, and the last check.
 --
---   Checked                what the last check asks of two lists
 --   Passes                 two lists of keys, the one new to home and the other held there, that agree with the values
 --   Judged                 the roots of a divided pair pass, as many as its degrees say; or no lists of which it is the χ pass
 --   Behind p q T O         theirs T and ours O are the sets behind the fraction p / q: however it is reduced, χ_T and χ_O are left
@@ -27,16 +26,9 @@ use Rattle.residue.specs.Field.{Fp, 𝓕, res}
 use Rattle.polynomial.specs.Coefficients.{poly}
 use Rattle.reconcile.specs.InField.{Good}
 use Rattle.gap.specs.Gap.{degreeOf}
-use Rattle.reconcile.specs.Stages.{NewTo, Agrees}
+use Rattle.verdict.specs.Checked.{NewTo, Agrees}
 open Field 𝓕 using (ring as 𝓡)
 open CRing (series 𝓡) using (mul as mulˢ)
-
--- "A repeated root, a root that is no key, or too few roots means no difference": p and q are the degrees
-pub record Checked (m : ℕ) (b v home T O : List ℕ) (p q : ℕ) : Type 0 where
-  pub theirs-count : length T ≡ p
-  pub ours-count : length O ≡ q
-  pub new : NewTo home T
-  pub agrees : Agrees m b v T O
 
 pub record Passes (m : ℕ) (b v home T O : List ℕ) : Type 0 where
   pub theirs-keys : Keys T

@@ -13,8 +13,6 @@ ghost use Rattle.polynomial.specs.Coefficients.{𝓡, poly};
 ghost use Rattle.reconcile.specs.InField.{Good};
 ghost use Rattle.reconcile.specs.Search.{Judged, Sifted, Finding, Searched};
 
-mod verdict; // the last check
-
 // The answer, and how many keys stand in each buffer.
 pub struct Reconciled {
     pub answer: Answer,
@@ -46,8 +44,8 @@ fn judge(
     requires { ⌜ (m ≤ mostSamples) × (m ≤ length (now b)) × (m ≤ length (now v)) × LegalList (now home) × Monic 𝓡 (length (now top) - 1) (poly (now top)) × Monic 𝓡 (length (now bottom) - 1) (poly (now bottom)) × (length (now top) ≤ mostSamples + 1) × (length (now bottom) ≤ mostSamples + 1) × (length (now theirs) ≡ mostSamples) × (length (now ours) ≡ mostSamples) ⌝ }
     ensures { λ r. ⌜ Judged m (now (b .entry)) (now (v .entry)) (now (home .entry)) (now (top .entry)) (now (bottom .entry)) (now (theirs .exit)) (now (ours .exit)) (r .found) (r .theirs) (r .ours) ⌝ }
 {
-    let t = polynomial::roots(top, theirs);
-    let o = polynomial::roots_among(bottom, home, ours);
+    let t = roots::roots(top, theirs);
+    let o = roots::roots_among(bottom, home, ours);
     let p = top.len() - 1;
     let q = bottom.len() - 1;
     let found = verdict::passes(m, b, v, home, &theirs[..t], &ours[..o], p, q);

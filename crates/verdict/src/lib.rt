@@ -3,33 +3,10 @@ use residue::Residue;
 ghost use mathlib.Core.Path.{_≡_};
 ghost use Prim.Native.Nat.{_≤_};
 ghost use lib.ListN.{length};
-ghost use Rattle.algebra.specs.Sets.{_∈_, Ascending};
+ghost use Rattle.algebra.specs.Sets.{Ascending};
 ghost use Rattle.rules.specs.Numbers.{mostSamples};
 ghost use Rattle.algebra.specs.Decided.{Decides};
-ghost use Rattle.reconcile.specs.Stages.{NewTo, Agrees};
-ghost use Rattle.reconcile.specs.Search.{Checked};
-
-// Whether an ascending list holds a key, by halving.
-pub fn holds(keys: &[u32], key: u32) -> bool
-    requires { ⌜ Ascending (now keys) ⌝ }
-    ensures { λ r. ⌜ Decides (key ∈ now (keys .entry)) r ⌝ }
-{
-    let mut low = 0;
-    let mut high = keys.len();
-    while low < high {
-        let middle = low + (high - low) / 2;
-        let at = keys[middle];
-        if at == key {
-            return true;
-        }
-        if at < key {
-            low = middle + 1;
-        } else {
-            high = middle;
-        }
-    }
-    false
-}
+ghost use Rattle.verdict.specs.Checked.{NewTo, Agrees, Checked};
 
 // Whether no key of theirs is at home.
 pub fn new_to(home: &[u32], theirs: &[u32]) -> bool
@@ -38,7 +15,7 @@ pub fn new_to(home: &[u32], theirs: &[u32]) -> bool
 {
     let mut i = 0;
     while i < theirs.len() {
-        if holds(home, theirs[i]) {
+        if roots::holds(home, theirs[i]) {
             return false;
         }
         i += 1;
