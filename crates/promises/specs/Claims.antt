@@ -1,7 +1,6 @@
 -- What a case of document 01 claims, and how such a claim is shown.
 --
 --   Claim, Holds           a value, a message, the values of a sketch, a refused list; what reconcile tells, or that it refuses by 13
---   sketch-1, sketch-2     sketches of one and of two samples, by their size and values
 --   Ready s home           the sketch and the list pass, and the gap is in range
 --   told-holds, none-holds a difference makes reconcile tell it; that there is none makes it refuse by 13
 --   All P l                P of each element of a list
@@ -15,7 +14,7 @@ use mathlib.Core.List.{List, [], _∷_, _++_}
 use Prim.Native.Nat.{ℕ, zero, suc, _+_, _-_, _≤_, _<_}
 use native.Mathlib.Nat.{eq-zero-or-pos}
 use native.Mathlib.Omega.{arith}
-use lib.ListN.{length, take, drop, replicate}
+use lib.ListN.{length, take, drop}
 use Rattle.rules.specs.Numbers.{keyLimit, samples, point, LegalKey}
 use Rattle.rules.specs.Sketches.{value, sketchOf, wellFormed}
 use Rattle.rules.specs.Messages.{message}
@@ -30,13 +29,6 @@ use Rattle.rules.specs.Formed.{formed}
 use Rattle.rules.specs.Legal.{legal}
 use Rattle.reconcile.specs.Passing.{passes-tests}
 use Rattle.promises.specs.Unique.{reconcile-one}
-
--- sketches of plans 0 and 1, which have one and two samples
-abbrev pub sketch-1 : ℕ → ℕ → Sketch
-sketch-1 n v = record { plan = 0; size = n; values = v ∷ replicate 63 0 }
-
-abbrev pub sketch-2 : ℕ → ℕ → ℕ → Sketch
-sketch-2 n v w = record { plan = 1; size = n; values = v ∷ w ∷ replicate 62 0 }
 
 pub data Claim : Type 0 where
   value-is : (keys : List ℕ) (sample v : ℕ) → Claim

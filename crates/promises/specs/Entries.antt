@@ -3,16 +3,20 @@
 --   sketch-entry-one       vlomdar_sketch: its contract gives number and buffer by definitions
 --   reconcile-entry-one    vlomdar_reconcile: any two outcomes coincide, buffers included
 --   FindsBytes, RefusesBytes, entry-says   past its first tests it gives a difference as bytes, or a refusal that leaves both buffers
+--   entry-7                case 7 through vlomdar_reconcile, in two buffers of two keys
 --
 -- Assumes nothing.
-use mathlib.Core.Path.{_≡_, sym, ap, ap₂, _∙_}
+use mathlib.Core.Path.{_≡_, sym, ap, ap₂, subst, _∙_}
 use mathlib.Core.Logic.{_⊎_, inl, inr}
-use mathlib.Core.List.{List, _++_}
+use mathlib.Core.List.{List, [], _∷_, _++_}
 use Prim.Native.Nat.{ℕ, _*_}
-use lib.ListN.{length, take, drop}
+use lib.Dec.{lit≤}
+use lib.ListN.{length, take, drop, replicate}
 use lib.Seq.{take-at}
 use Rattle.algebra.specs.Tabulate.{tabulate}
 use Rattle.rules.specs.Refusals.{numberOf, placeOf, numberOfRefusal, placeOfRefusal}
+use Rattle.rules.specs.Cases.{sketch-2, difference-7}
+use Rattle.rules.specs.CallCases.{message-7, read-7, sketch-7}
 use Rattle.rules.specs.Calls.{readResult, reconcileTests}
 use Rattle.rules.specs.Reconciling.{DifferenceOf, Left, Refuses, Finds, After, Reconciles}
 use Rattle.rules.specs.Entries.{keyBytes, keysOf, bytesOf, packed, frontBytes, sketchReturns, sketchLeaves, reconcileEntryTests, EntryLeft, ReconcilesKeys, EntryAfter, EntryReconciles}
@@ -22,6 +26,8 @@ use Rattle.rules.specs.declared.Refusal.the-variants.{NoDifference}
 use Rattle.rules.specs.declared.Answer.{Answer}
 use Rattle.rules.specs.declared.Answer.the-variants.{Done, Refused}
 use Rattle.promises.specs.Unique.{reconcile-one}
+use Rattle.promises.specs.Claims.{told, told-holds}
+use Rattle.promises.specs.Starred.{ready-7}
 
 pub sketch-entry-one : (plan : ℕ) (list message : List ℕ) (r₁ r₂ : ℕ) (after₁ after₂ : List ℕ) → (r₁ ≡ sketchReturns plan list (length message)) × (after₁ ≡ sketchLeaves plan list message)
     → (r₂ ≡ sketchReturns plan list (length message)) × (after₂ ≡ sketchLeaves plan list message) → (r₁ ≡ r₂) × (after₁ ≡ after₂)
@@ -95,3 +101,27 @@ module _ (s : Sketch) (home theirs ours : List ℕ) (left : EntryLeft) (x : Reco
       go (Refused r) f = inr (r, refused r f)
       go Done (inl f) = inl (found f)
       go Done (inr f) = inr (NoDifference, refused NoDifference (f .1))
+
+-- "message with home list to two lists": the message 110002fffd7ffe00 and home 1 give theirs 3 and ours 1, and the second key of each buffer stays
+abbrev home-7 : List ℕ
+home-7 = bytesOf (1 ∷ [])
+
+abbrev buffer-7 : List ℕ
+buffer-7 = replicate 8 255
+
+abbrev left-7 : EntryLeft
+left-7 = record { number = packed 0 0 1 1; theirs = bytesOf (3 ∷ []) ++ replicate 4 255; ours = bytesOf (1 ∷ []) ++ replicate 4 255 }
+
+pub entry-7 : (left : EntryLeft) → EntryReconciles message-7 home-7 buffer-7 buffer-7 left → left ≡ left-7
+unfolding EntryReconciles reconcileEntryTests keysOf bytesOf tabulate
+entry-7 left r = found (subst (λ (s : Sketch). ReconcilesKeys s home-7 buffer-7 buffer-7 left) sketch-7 (subst (λ (a : Answer). EntryAfter a (readResult message-7) home-7 buffer-7 buffer-7 left) read-7 r))
+  where
+    same : (x : ReconcilesKeys (sketch-2 1 65533 65532) home-7 buffer-7 buffer-7 left) → x .keys ≡ told (3 ∷ []) (1 ∷ []) (keysOf buffer-7) (keysOf buffer-7)
+    same x = told-holds (sketch-2 1 65533 65532) (1 ∷ []) (3 ∷ []) (1 ∷ []) ready-7 difference-7 (keysOf buffer-7) (keysOf buffer-7) (lit≤ tt) (lit≤ tt) (x .keys) (x .reconciles)
+
+    found : ReconcilesKeys (sketch-2 1 65533 65532) home-7 buffer-7 buffer-7 left → left ≡ left-7
+    found x = λ i. record {
+      number = (x .number ∙ ap numberFor (same x)) i;
+      theirs = (x .theirs-filled ∙ ap (λ (k : Left). frontBytes (k .theirs-count) (k .theirs) buffer-7) (same x)) i;
+      ours = (x .ours-filled ∙ ap (λ (k : Left). frontBytes (k .ours-count) (k .ours) buffer-7) (same x)) i;
+    }

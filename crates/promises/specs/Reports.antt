@@ -5,25 +5,25 @@
 --   example-output         of document 01's example the output is its three lines
 --
 -- Assumes nothing.
-use mathlib.Core.Path.{_≡_, refl, sym, ap, ap₂, subst, _∙_}
+use mathlib.Core.Path.{_≡_, sym, ap, ap₂, subst, _∙_}
 use mathlib.Core.List.{List, [], _∷_, _++_}
 use Prim.Native.Nat.{ℕ, _-_, _≤_}
 use native.Mathlib.Omega.{arith}
 use lib.Dec.{lit≤}
 use lib.ListN.{length, take, drop, replicate, take-append-drop}
 use lib.Seq.{length-take-le}
-use Rattle.algebra.specs.Tabulate.{tabulate}
-use Rattle.rules.specs.Messages.{fieldAt}
 use Rattle.rules.specs.Calls.{readAnswer, readResult}
 use Rattle.rules.specs.Reconciling.{Left}
 use Rattle.rules.specs.Report.{text, Form, tooLong, badLine, whole, formOf, answered, room, Reconciled, AfterRead, Says, Reports}
+use Rattle.rules.specs.Cases.{sketch-2, difference-7}
+use Rattle.rules.specs.CallCases.{message-7, read-7, sketch-7}
 use Rattle.rules.specs.ReportCases.{example, example-form, example-text}
 use Rattle.rules.specs.declared.Sketch.{Sketch}
 use Rattle.rules.specs.declared.Answer.{Answer}
 use Rattle.rules.specs.declared.Answer.the-variants.{Done, Refused}
 use Rattle.promises.specs.Unique.{reconcile-one}
-use Rattle.promises.specs.Claims.{sketch-2, told-holds}
-use Rattle.promises.specs.Starred.{ready-7, difference-7}
+use Rattle.promises.specs.Claims.{told-holds}
+use Rattle.promises.specs.Starred.{ready-7}
 
 reconciled-one : (s : Sketch) (keys a b : List ℕ) → Reconciled s keys a → Reconciled s keys b → a ≡ b
 reconciled-one s keys a b x y =
@@ -50,18 +50,6 @@ text-one room input a b m n la lb hm hn x y ra rb = (sym (take-append-drop m a) 
 
     same : m ≡ n
     same = sym (length-take-le m a (omega arith)) ∙ ap length texts ∙ length-take-le n b (omega arith)
-
--- what the example's message holds
-abbrev message-7 : List ℕ
-message-7 = 17 ∷ 0 ∷ 2 ∷ 255 ∷ 253 ∷ 127 ∷ 254 ∷ 0 ∷ []
-
-read-7 : readAnswer message-7 ≡ Done
-unfolding readAnswer fieldAt
-read-7 = refl
-
-sketch-7 : readResult message-7 ≡ sketch-2 1 65533 65532
-unfolding readAnswer fieldAt tabulate
-sketch-7 = refl
 
 -- "For `have 1` and `message 110002fffd7ffe00` it writes exactly: .."
 pub example-output : (output : List ℕ) → Reports example output → output ≡ text "plan 1 peer 1 own 1\ntheirs 1: 3\nours 1: 1\n"

@@ -24,15 +24,14 @@ use Rattle.rules.specs.Numbers.{modulus, modulus-prime, keyLimit, point, LegalK
 use Rattle.rules.specs.Sketches.{value, wellFormed}
 use Rattle.rules.specs.Calls.{listAnswer}
 use Rattle.rules.specs.Legal.{keys-legal}
-use Rattle.rules.specs.Cases.{case-1, case-2-value, case-2, case-3-value, case-3, case-4-first, case-4-last, case-4-refused, case-5, case-6}
+use Rattle.rules.specs.Cases.{sketch-1, sketch-2, difference-7, difference-9, difference-12, case-1, case-2-value, case-2, case-3-value, case-3, case-4-first, case-4-last, case-4-refused, case-5, case-6}
 use Rattle.rules.specs.Differences.{Difference}
-use Rattle.rules.specs.Reconciling.{None, DifferenceOf}
+use Rattle.rules.specs.Reconciling.{None}
 use Rattle.gap.specs.Gap.{gap-eq}
-use Rattle.rules.specs.declared.Sketch.{Sketch}
 use Rattle.residue.specs.Field.{Fp, 𝓕, res, zero-is, one-is, eq-zero-res}
 use Rattle.interpolation.specs.Interpolated.{sampleAt}
 use Rattle.reconcile.specs.InField.{Small, keys-small, res-inj, difference-fits}
-use Rattle.promises.specs.Claims.{Claim, value-is, message-is, values-are, list-refused, tells, refuses-13, sketch-1, sketch-2, Holds, Ready, told-holds, none-holds, All, none, _also_, below, no-key}
+use Rattle.promises.specs.Claims.{Claim, value-is, message-is, values-are, list-refused, tells, refuses-13, Holds, Ready, told-holds, none-holds, All, none, _also_, below, no-key}
 open Field 𝓕 using (ring as 𝓡)
 open CRing 𝓡 using (add, mul, zero as 𝟘, one as 𝟙, neg)
 
@@ -60,20 +59,6 @@ starred =
     ∷ case 15 (refuses-13 (sketch-2 0 1 2) [] ∷ [])
     ∷ []
 
--- what holds at the first sample, or at the first two, holds at each
-at-1 : (P : ℕ → Type 0) → P 0 → (i : ℕ) → i < 1 → P i
-at-1 P p zero l = p
-at-1 P p (suc i) l = absurd (omega arith)
-
-at-2 : (P : ℕ → Type 0) → P 0 → P 1 → (i : ℕ) → i < 2 → P i
-at-2 P p q zero l = p
-at-2 P p q (suc zero) l = q
-at-2 P p q (suc (suc i)) l = absurd (omega arith)
-
--- the equation of a difference at sample i
-abbrev Agree : Sketch → List ℕ → List ℕ → List ℕ → ℕ → Type 0
-Agree s home theirs ours i = mulOf modulus (value theirs (point (suc i))) (value home (point (suc i))) ≡ mulOf modulus (getD (s .values) i 0) (value ours (point (suc i)))
-
 -- the counts of a difference, as naturals
 count : {m n : ℕ} {v home theirs ours : List ℕ} → Difference m n v home theirs ours → length theirs + length home ≡ n + length ours
 count {n = n} {home = home} {theirs = theirs} {ours = ours} d = gap-eq (length theirs) (length ours) n (length home) (d .gap)
@@ -82,18 +67,6 @@ count {n = n} {home = home} {theirs = theirs} {ours = ours} d = gap-eq (length t
 pub ready-7 : Ready (sketch-2 1 65533 65532) (1 ∷ [])
 unfolding wellFormed listAnswer
 ready-7 = record { whole = refl; listed = refl; low = lit≤ tt; high = lit≤ tt }
-
-pub difference-7 : DifferenceOf (sketch-2 1 65533 65532) (1 ∷ []) (3 ∷ []) (1 ∷ [])
-unfolding productOf
-difference-7 = record {
-  theirs-keys = keys-legal (3 ∷ []) refl;
-  ours-keys = keys-legal (1 ∷ []) refl;
-  new = λ k i j. omega (arith, List·Memᴰ·eq-of-singleton i, List·Memᴰ·eq-of-singleton j);
-  held = λ k i. i;
-  gap = refl;
-  bound = lit≤ tt;
-  agrees = at-2 (Agree (sketch-2 1 65533 65532) (1 ∷ []) (3 ∷ []) (1 ∷ [])) refl refl;
-}
 
 -- 8. "Home {1}, n = 1, m = 1, value 65,533: refused by 13." Only two empty lists have the counts.
 ready-8 : Ready (sketch-1 1 65533) (1 ∷ [])
@@ -110,18 +83,6 @@ none-8 (k ∷ theirs) ours d = omega (arith, count d, d .bound)
 ready-9 : (v : ℕ) → wellFormed (sketch-1 1 v) ≡ true → Ready (sketch-1 1 v) []
 unfolding listAnswer
 ready-9 v w = record { whole = w; listed = refl; low = lit≤ tt; high = lit≤ tt }
-
-difference-9 : DifferenceOf (sketch-1 1 64) [] (65472 ∷ []) []
-unfolding productOf
-difference-9 = record {
-  theirs-keys = keys-legal (65472 ∷ []) refl;
-  ours-keys = keys-legal [] refl;
-  new = λ k i j. List·Memᴰ·not-nil j;
-  held = λ k i. i;
-  gap = refl;
-  bound = lit≤ tt;
-  agrees = at-1 (Agree (sketch-1 1 64) [] (65472 ∷ []) []) refl;
-}
 
 -- where the equation at point 1 holds of no legal key but those that `but` names, the key that it holds of is one of them
 only : (f : ℕ → ℕ) (v : ℕ) (but : ℕ → Bool) → below (λ k. not (eqb (f k) v) || but k) (suc keyLimit) ≡ true → (k : ℕ) → LegalKey k → f k ≡ v → but k ≡ true
@@ -158,18 +119,6 @@ none-11 (k ∷ j ∷ theirs) ours d = omega (arith, count d, d .bound)
 ready-12 : (v : ℕ) → wellFormed (sketch-1 0 v) ≡ true → Ready (sketch-1 0 v) (1 ∷ [])
 unfolding listAnswer
 ready-12 v w = record { whole = w; listed = refl; low = lit≤ tt; high = lit≤ tt }
-
-difference-12 : DifferenceOf (sketch-1 0 1) (1 ∷ []) [] (1 ∷ [])
-unfolding productOf
-difference-12 = record {
-  theirs-keys = keys-legal [] refl;
-  ours-keys = keys-legal (1 ∷ []) refl;
-  new = λ k i j. List·Memᴰ·not-nil i;
-  held = λ k i. i;
-  gap = refl;
-  bound = lit≤ tt;
-  agrees = at-1 (Agree (sketch-1 0 1) (1 ∷ []) [] (1 ∷ [])) refl;
-}
 
 none-12 : None (sketch-1 0 2) (1 ∷ [])
 unfolding productOf

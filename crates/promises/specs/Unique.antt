@@ -1,6 +1,7 @@
 -- Every contract leaves one answer: any two outcomes that it allows for one input coincide, buffers included.
 --
 --   one-difference-of      "At most one pair meets this; that is to be proved."
+--   refuses-one            a refusal's outcome is one
 --   reconcile-one          so reconcile's contract, which says what is found and not how, leaves one outcome
 --   sketched-one           the contracts of sketch, read, added and removed give answer and sketch by definitions: one outcome
 --   updated-one            those of add and remove give the answer and the lent sketch afterwards: one outcome
@@ -34,7 +35,7 @@ one-difference-of s home T₁ O₁ T₂ O₂ w keys d₁ d₂ =
 left-path : (a b : Left) → a .answer ≡ b .answer → a .theirs-count ≡ b .theirs-count → a .ours-count ≡ b .ours-count → a .theirs ≡ b .theirs → a .ours ≡ b .ours → a ≡ b
 left-path a b p q r s t = λ i. record { answer = p i; theirs-count = q i; ours-count = r i; theirs = s i; ours = t i }
 
-refuses-one : (r : Refusal) (theirs ours : List ℕ) (a b : Left) → Refuses r theirs ours a → Refuses r theirs ours b → a ≡ b
+pub refuses-one : (r : Refusal) (theirs ours : List ℕ) (a b : Left) → Refuses r theirs ours a → Refuses r theirs ours b → a ≡ b
 refuses-one r theirs ours a b x y =
     left-path a b (x .answer ∙ sym (y .answer)) (x .theirs-none ∙ sym (y .theirs-none)) (x .ours-none ∙ sym (y .ours-none)) (x .theirs-stay ∙ sym (y .theirs-stay)) (x .ours-stay ∙ sym (y .ours-stay))
 

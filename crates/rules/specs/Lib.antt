@@ -1,5 +1,5 @@
 -- Document 01 in its order. What a reader must believe: Numbers, Sketches, Messages, Differences, Refusals,
--- Calls, Reconciling, Entries, Report. What is shown of them: Tests, Plans, Formed, Filled, Legal, Packed, Cases, ReportCases.
+-- Calls, Reconciling, Entries, Report. What is shown of them: Tests, Plans, Formed, Filled, Legal, Packed, Cases, CallCases, ReportCases.
 pub mod Numbers
 pub mod Sketches
 pub mod Messages
@@ -16,4 +16,5 @@ pub mod Filled
 pub mod Legal
 pub mod Packed
 pub mod Cases
+pub mod CallCases
 pub mod ReportCases

@@ -2,6 +2,7 @@
 --
 --   example-form, example-text     `have 1` and `message 110002fffd7ffe00`: what they hold, and the three lines for the difference
 --   bad-.., good-..                inputs that are bad at a line, and inputs that are not
+--   read-first, too-long           what is written where the read refuses and the keys are bad too, and where the input is too long
 --
 -- Assumes nothing.
 use mathlib.Core.Path.{_≡_, refl}
@@ -9,7 +10,8 @@ use mathlib.Core.List.{List, [], _∷_}
 use Prim.Native.Nat.{ℕ}
 use lib.ListN.{replicate}
 use Rattle.rules.specs.Refusals.{numberOf, placeOf}
-use Rattle.rules.specs.Report.{text, newline, good, bad, limited, firstLine, secondLine, Form, tooLong, badLine, whole, formOf, decimal, refusedText, badLineText, countsText, listText, foundText}
+use Rattle.rules.specs.Report.{text, newline, good, bad, limited, firstLine, secondLine, Form, tooLong, badLine, whole, formOf, decimal, refusedText, badLineText, countsText, listText, foundText, Reports}
+use Rattle.rules.specs.Calls.{readAnswer}
 use Rattle.rules.specs.declared.Refusal.the-variants.{UnorderedKey, NoDifference}
 use Rattle.rules.specs.declared.Answer.the-variants.{Refused}
 
@@ -73,6 +75,15 @@ pub bad-sign : Bad (text "have -1\nmessage \n") 1
 unfolding formOf firstLine
 bad-sign = refl
 
+-- the bytes next to the digits
+pub bad-slash : Bad (text "have /\nmessage \n") 1
+unfolding formOf firstLine
+bad-slash = refl
+
+pub bad-colon : Bad (text "have 1:\nmessage \n") 1
+unfolding formOf firstLine
+bad-colon = refl
+
 pub bad-second-missing : Bad (text "have\n") 2
 unfolding formOf firstLine secondLine
 bad-second-missing = refl
@@ -88,6 +99,14 @@ bad-odd = refl
 pub bad-upper-case : Bad (text "have\nmessage 1F\n") 2
 unfolding formOf firstLine secondLine
 bad-upper-case = refl
+
+pub bad-letter : Bad (text "have\nmessage 1g\n") 2
+unfolding formOf firstLine secondLine
+bad-letter = refl
+
+pub bad-backquote : Bad (text "have\nmessage 1`\n") 2
+unfolding formOf firstLine secondLine
+bad-backquote = refl
 
 pub bad-carriage-return : Bad (text "have\nmessage 1f\r\n") 2
 unfolding formOf firstLine secondLine
@@ -119,3 +138,12 @@ bad-8193-keys = refl
 
 pub good-8192-keys : limited (good (replicate 8192 0) []) ≡ good (replicate 8192 0) []
 good-8192-keys = refl
+
+-- "Refusals of the read come before those of reconciling."
+pub read-first : Reports (text "have 5 4\nmessage \n") (text "refused 7 at 0\n")
+unfolding Reports formOf firstLine secondLine readAnswer refusedText decimal
+read-first = refl
+
+pub too-long : Reports (replicate 60001 newline) (text "too long\n")
+unfolding Reports formOf firstLine
+too-long = refl
