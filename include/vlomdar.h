@@ -57,8 +57,8 @@ extern "C" {
 #define VLOMDAR_MOST_SAMPLES 64u       /* samples of the largest plan: a buffer for so many keys is long enough for any plan */
 #define VLOMDAR_LONGEST_MESSAGE 139u   /* bytes of the largest plan's message */
 #define VLOMDAR_USUAL_PLAN 255u        /* asks for the usual plan, which is plan 8 */
-#define VLOMDAR_SKETCH_STACK 71680u    /* bytes of stack that are enough for vlomdar_sketch */
-#define VLOMDAR_RECONCILE_STACK 163840u /* and for vlomdar_reconcile */
+#define VLOMDAR_SKETCH_STACK 212992u   /* bytes of stack that are enough for vlomdar_sketch */
+#define VLOMDAR_RECONCILE_STACK 262144u /* and for vlomdar_reconcile */
 
 /* What vlomdar_number gives. The place is 0 unless the line says otherwise. */
 enum vlomdar_refusal {
