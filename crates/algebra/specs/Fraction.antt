@@ -19,16 +19,15 @@ use native.Mathlib.Omega.{arith}
 use native.Mathlib.Nat.{eq-or-lt-of-le}
 use native.Mathlib.Decide.{decLt}
 use lib.ListN.{length}
-use lib.Seq.{ext-getD}
-use Rattle.algebra.specs.Ring.{CRing, zero-mul, mul-zero, mul-one, sub-eq-zero}
+use Rattle.algebra.specs.Ring.{CRing, zero-mul, mul-zero, mul-one}
 use Rattle.algebra.specs.Field.{Field, mul-cancel, mul-eq-zero, cancel-left}
-use Rattle.algebra.specs.Solver.{_⊝_, _⊗_, #0, #1, by-ring}
+use Rattle.algebra.specs.Solver.{_⊗_, #1, by-ring}
 use Rattle.algebra.specs.Polynomial.{coeff, value, mulᴾ, chi, Monic, agree, chi-monic, chi-root, value-mul, value-chi}
 use Rattle.algebra.specs.Series.{series, cauchy, constant, cauchy-zero, cauchy-constant, mul-at, one-at, coeff-mulˢ}
-use Rattle.algebra.specs.Divide.{HasDegree, degree, Divides, mul-monic, rest-monic, cancelˢ, value-ext, value-at, roots-divide, unit-const}
+use Rattle.algebra.specs.Divide.{HasDegree, degree, Divides, mul-monic, cancelˢ, value-ext, value-at, roots-divide, unit-const}
 use Rattle.algebra.specs.Gcd.{IsGcd}
 use Rattle.algebra.specs.Tabulate.{tabulate, tabulate-length, tabulate-mem, tabulate-distinct}
-use Rattle.algebra.specs.Sets.{_∈_, Distinct, without, without-mem, without-distinct}
+use Rattle.algebra.specs.Sets.{_∈_, Distinct, without, without-mem}
 use Rattle.algebra.specs.Product.{prod, prod-zero, zero-prod, cross}
 
 module _ {F : Type 0} (𝓕 : Field F) where

@@ -23,11 +23,11 @@ use Rattle.algebra.specs.Solver.{_⊝_, _⊗_, ⊖, #0, by-ring}
 use Rattle.algebra.specs.Arithmetic.{inverseOf, mulOf}
 use Rattle.algebra.specs.Linear.{Solves, meets}
 use Rattle.rules.specs.Numbers.{modulus}
-use Rattle.residue.specs.Field.{𝓕, res, zero-is, sub-is, mul-is, inverse-is, res-eq-zero, eq-zero-res}
+use Rattle.residue.specs.Field.{𝓕, res, zero-is, sub-is, mul-is, inverse-is, res-eq-zero, eq-zero-res, res-mod}
 use Rattle.linear.specs.Solved.{vector, matrix, Solution, Insoluble}
 use Rattle.linear.specs.Echelon.{Sifted, echelon-none, sifted-of, kept, passed, refuted, closed-all, insoluble}
 use Rattle.linear.specs.Rows.{digitSum, minusInverse, Zeros, Loaded, Scaled, Related, SiftedTo, Refuted, Reduced, Substituted}
-use Rattle.linear.proofs.Piles.{res-mod, res-digitSum}
+use Rattle.linear.proofs.Piles.{res-digit-sum}
 use Rattle.linear.proofs.Places.{inside}
 open Field 𝓕 using (ring as 𝓡, inv, inv-mul)
 open CRing 𝓡 using (add, mul, neg, zero, one)
@@ -67,7 +67,7 @@ module _ {c i p : ℕ} {rows rel d₀ d₁ d : List ℕ} (s : Related c i rows r
 
       new : (j : ℕ) → j < c + 1 → matrix (c + 1) rel′ p j ≡ mul (res f) (vector d j)
       new j o = ap res (r .new (p * (c + 1) + j) (omega arith) (omega arith) ∙ ap (λ (k : ℕ). mulOf modulus f (digitSum (getD d k 0))) (add-sub-cancel-left (p * (c + 1)) j))
-          ∙ mul-is f (digitSum (getD d j 0)) ∙ ap (mul (res f)) (res-digitSum (getD d j 0))
+          ∙ mul-is f (digitSum (getD d j 0)) ∙ ap (mul (res f)) (res-digit-sum (getD d j 0))
 
       old : (q j : ℕ) → q < c → ¬ (q ≡ p) → j < c + 1 → matrix (c + 1) rel′ q j ≡ matrix (c + 1) rel q j
       old q j k n o = ap res (r .old (q * (c + 1) + j) (λ a. elim (decLt q p) [

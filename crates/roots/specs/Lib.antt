@@ -1,6 +1,5 @@
 -- The roots of a polynomial over the residues modulo the prime of document 01: what is found, and why it is all there is.
 pub mod Answers
-pub mod Members
 pub mod Squares
 pub mod Generated
 pub mod Descent
