@@ -7,7 +7,7 @@ ghost use Prim.Native.Nat.{_+_, _-_, _≤_};
 ghost use lib.ListN.{length};
 ghost use Rattle.algebra.specs.Polynomial.{Monic};
 ghost use Rattle.rules.specs.Numbers.{mostSamples, listLimit, LegalList};
-ghost use Rattle.rules.specs.Calls.{reconcileTests};
+ghost use Rattle.rules.specs.Calls.{listAnswer, reconcileTests};
 ghost use Rattle.rules.specs.Reconciling.{Reconciles};
 ghost use Rattle.polynomial.specs.Coefficients.{𝓡, poly};
 ghost use Rattle.reconcile.specs.InField.{Good};
@@ -140,14 +140,14 @@ fn search(
     )
 }
 
-// The refusals that come before a difference is looked for, in their order.
-fn tests(s: Sketch, home: &[u32], theirs: usize, ours: usize) -> Answer
+// The refusals that come before a difference is looked for, in their order. That of the list is handed in.
+fn tests(s: Sketch, home: &[u32], list: Answer, theirs: usize, ours: usize) -> Answer
+    requires { ⌜ list ≡ listAnswer (now home) ⌝ }
     ensures { λ r. ⌜ r ≡ reconcileTests s (now (home .entry)) theirs ours ⌝ }
 {
     if !sketch::well_formed(s) {
         return Answer::Refused(Refusal::MalformedSketch);
     }
-    let list = sketch::list_answer(home);
     if let Answer::Refused(_) = list {
         return list;
     }
@@ -167,11 +167,18 @@ fn tests(s: Sketch, home: &[u32], theirs: usize, ours: usize) -> Answer
 }
 
 // What each side lacks: the keys that are new at home in the first entries of theirs, those that the peer lacks in those of ours. Both lists are found in
-// arrays of this call and copied once, on success: a refusal leaves both buffers as they were.
-pub fn reconcile(s: Sketch, home: &[u32], theirs: &mut [u32], ours: &mut [u32]) -> Reconciled
+// arrays of this call and copied once, on success: a refusal leaves both buffers as they were. The list's own test has been made by the caller.
+pub fn reconcile_told(
+    s: Sketch,
+    home: &[u32],
+    list: Answer,
+    theirs: &mut [u32],
+    ours: &mut [u32],
+) -> Reconciled
+    requires { ⌜ list ≡ listAnswer (now home) ⌝ }
     ensures { λ r. ⌜ Reconciles s (now (home .entry)) (now (theirs .entry)) (now (ours .entry)) (record { answer = r .answer; theirs-count = r .theirs; ours-count = r .ours; theirs = now (theirs .exit); ours = now (ours .exit) }) ⌝ }
 {
-    let answer = tests(s, home, theirs.len(), ours.len());
+    let answer = tests(s, home, list, theirs.len(), ours.len());
     if let Answer::Refused(_) = answer {
         return Reconciled {
             answer,
@@ -202,4 +209,11 @@ pub fn reconcile(s: Sketch, home: &[u32], theirs: &mut [u32], ours: &mut [u32]) 
         theirs: t,
         ours: o,
     }
+}
+
+// The same of a list of which nothing is known.
+pub fn reconcile(s: Sketch, home: &[u32], theirs: &mut [u32], ours: &mut [u32]) -> Reconciled
+    ensures { λ r. ⌜ Reconciles s (now (home .entry)) (now (theirs .entry)) (now (ours .entry)) (record { answer = r .answer; theirs-count = r .theirs; ours-count = r .ours; theirs = now (theirs .exit); ours = now (ours .exit) }) ⌝ }
+{
+    reconcile_told(s, home, sketch::list_answer(home), theirs, ours)
 }

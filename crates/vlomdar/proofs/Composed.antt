@@ -128,7 +128,7 @@ even-list plan list message number after h o = (o .0 ∙ ap (λ a. sketchReturns
     passed : sketchEntryAnswer plan list (length message) ≡ toMessageAnswer plan (keysOf list) (length message)
     passed = rw (eq-eqb (length list % 4) 0 h)
 
-pub taken-list : (plan : ℕ) (list message room keys : List ℕ) (count number : ℕ) (after : List ℕ) → length list % 4 ≡ 0 → length room ≡ suc listLimit → Taken list room keys count
+pub taken-list : (plan : ℕ) (list message room keys : List ℕ) (count : ℕ) (ascending : Bool) (number : ℕ) (after : List ℕ) → length list % 4 ≡ 0 → length room ≡ suc listLimit → Taken list room keys count ascending
     → Outcome plan (take count keys) message number after → EntryOutcome plan list message number after
-taken-list plan list message room keys count number after even n t o =
+taken-list plan list message room keys count ascending number after even n t o =
     even-list plan list message number after even (cut plan (keysOf list) message number after (subst (λ (ks : List ℕ). Outcome plan ks message number after) (t .taken ∙ ap (λ n. take n (keysOf list)) n) o))

@@ -6,6 +6,7 @@
 --
 -- Assumes nothing.
 use mathlib.Core.Path.{_≡_, sym, ap, ap₂, _∙_}
+use mathlib.Core.Bool.{Bool}
 use mathlib.Core.List.{List, _++_}
 use Prim.Native.Nat.{ℕ, suc, _+_, _*_, _/_, _≤_, min}
 use native.Mathlib.Omega.{arith}
@@ -35,9 +36,9 @@ pub record Found (s : Sketch) (home theirs ours : List ℕ) (left : Left) : Type
 room-of : (bytes zeros : List ℕ) (n : ℕ) → length zeros ≡ mostSamples → n ≡ min (length bytes / 4) mostSamples → length (take n zeros) ≡ min (length (keysOf bytes)) mostSamples
 room-of bytes zeros n z e = length-take-le n zeros (omega arith) ∙ e ∙ ap (λ k. min k mostSamples) (sym (keys-length bytes))
 
-pub found-of : (s : Sketch) (home theirs ours room keys zt zo : List ℕ) (count tr or : ℕ) (left : Left) → length room ≡ suc listLimit → Taken home room keys count → length zt ≡ mostSamples → length zo ≡ mostSamples
+pub found-of : (s : Sketch) (home theirs ours room keys zt zo : List ℕ) (count tr or : ℕ) (ascending : Bool) (left : Left) → length room ≡ suc listLimit → Taken home room keys count ascending → length zt ≡ mostSamples → length zo ≡ mostSamples
     → tr ≡ min (length theirs / 4) mostSamples → or ≡ min (length ours / 4) mostSamples → Reconciles s (take count keys) (take tr zt) (take or zo) left → Found s home theirs ours left
-found-of s home theirs ours room keys zt zo count tr or left n taken lt lo et eo r = go (bounds s (take count keys) (take tr zt) (take or zo) left r)
+found-of s home theirs ours room keys zt zo count tr or ascending left n taken lt lo et eo r = go (bounds s (take count keys) (take tr zt) (take or zo) left r)
   where
     lent : Lent (keysOf home) (keysOf theirs) (keysOf ours) (take count keys) (take tr zt) (take or zo)
     lent = record { cut = taken .taken ∙ ap (λ n. take n (keysOf home)) n; theirs-room = room-of theirs zt tr lt et; ours-room = room-of ours zo or lo eo }

@@ -13,9 +13,9 @@ use Prim.Native.Nat.{ℕ, suc, _+_, _-_, _≤_, _<_, min}
 use native.Mathlib.Nat.{eq-zero-or-pos}
 use native.Mathlib.Omega.{arith}
 use borrow.Author.Tests.{lt-ltb, le-ltb}
-use lib.Dec.{ltb, lit<}
+use lib.Dec.{ltb}
 use lib.IntN.{pos, negℤ}
-use lib.ListN.{length, take, drop, length-append}
+use lib.ListN.{length, take, drop}
 use lib.Seq.{take-all, take-at, length-take-le}
 use lib.Signed.{ltZ}
 use Rattle.rules.specs.Numbers.{listLimit, mostSamples, samples}
@@ -25,14 +25,12 @@ use Rattle.rules.specs.Differences.{gapOf}
 use Rattle.rules.specs.Refusals.{when, _then_}
 use Rattle.rules.specs.Calls.{listAnswer, reconcileTests}
 use Rattle.rules.specs.Reconciling.{DifferenceOf, None, Left, Refuses, Finds, After, Reconciles}
-use Rattle.rules.specs.Packed.{SmallPlace, small-reconcile}
 use Rattle.rules.specs.declared.Sketch.{Sketch}
 use Rattle.rules.specs.declared.Refusal.{Refusal}
 use Rattle.rules.specs.declared.Refusal.the-variants.{LongList, MalformedSketch, ShortBuffer, LargeGap, NoDifference}
 use Rattle.rules.specs.declared.Answer.{Answer}
 use Rattle.rules.specs.declared.Answer.the-variants.{Done, Refused}
-use Rattle.reconcile.specs.Passing.{Passing, passing}
-use Rattle.reconcile.specs.Bounds.{Bounds, bounds}
+use Rattle.reconcile.specs.Passing.{passing}
 use Rattle.vlomdar.proofs.Composed.{too-long}
 
 pub record Lent (home theirs ours h t o : List ℕ) : Type 0 where

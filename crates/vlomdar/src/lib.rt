@@ -3,9 +3,12 @@ use rules::Answer;
 use rules::Refusal;
 use rules::Sketch;
 ghost use mathlib.Core.Path.{_≡_};
-ghost use Prim.Native.Nat.{_+_, _*_, _<_, _≤_, _^_, min};
+ghost use Prim.Native.Nat.{suc, _+_, _*_, _<_, _≤_, _^_, min};
 ghost use lib.ListN.{length, drop};
 ghost use mathlib.Core.List.{_++_};
+ghost use Rattle.algebra.specs.Decided.{Decides};
+ghost use Rattle.algebra.specs.Sets.{Ascending};
+ghost use Rattle.rules.specs.Numbers.{listLimit};
 ghost use Rattle.rules.specs.Refusals.{numberOf, placeOf};
 ghost use Rattle.rules.specs.Entries.{keyBytes, keyAt, byteOf, bytesOf, packed, toMessageAnswer, sketchReturnsBy, sketchLeavesBy, sketchReturns, sketchLeaves, ReconcilesKeys, EntryReconciles};
 ghost use Rattle.vlomdar.specs.Taken.{Taken};
@@ -47,17 +50,40 @@ fn lesser(a: usize, b: usize) -> usize
     if a < b { a } else { b }
 }
 
-// The keys in a buffer, as many of them as there is room for; how many those are.
-fn keys_in(bytes: &[u8], keys: &mut [u32]) -> usize
-    ensures { λ r. ⌜ Taken (now (bytes .entry)) (now (keys .entry)) (now (keys .exit)) r ⌝ }
+// How many keys were taken out of a buffer, and whether each is above the one before it.
+struct Intake {
+    count: usize,
+    ascending: bool,
+}
+
+// The keys in a buffer, as many of them as there is room for. They are copied and compared in one pass; no key ends it and none makes it branch, so that
+// several are taken at a time.
+fn keys_in(bytes: &[u8], keys: &mut [u32]) -> Intake
+    requires { ⌜ length (now keys) ≤ suc listLimit ⌝ }
+    ensures { λ r. ⌜ Taken (now (bytes .entry)) (now (keys .entry)) (now (keys .exit)) (r .count) (r .ascending) ⌝ }
 {
     let count = lesser(bytes.len() / KEY_BYTES, keys.len());
-    let mut i = 0;
+    if count == 0 {
+        return Intake {
+            count,
+            ascending: true,
+        };
+    }
+    let mut before = key_at(bytes, 0);
+    keys[0] = before;
+    let mut falls: u32 = 0;
+    let mut i = 1;
     while i < count {
-        keys[i] = key_at(bytes, KEY_BYTES * i);
+        let key = key_at(bytes, KEY_BYTES * i);
+        keys[i] = key;
+        falls += sketch::fall(before, key);
+        before = key;
         i += 1;
     }
-    count
+    Intake {
+        count,
+        ascending: falls == 0,
+    }
 }
 
 // Keys as bytes at the front of a buffer, the rest of which stays.
@@ -83,11 +109,13 @@ fn pack(answer: Answer, first: usize, second: usize) -> u64
     number + 0x100 * place + 0x1_0000_0000 * (first as u64) + 0x1_0000_0000_0000 * (second as u64)
 }
 
-// The message of a list of keys, or why there is none.
-fn to_message(plan: u32, keys: &[u32], message: &mut [u8]) -> u64
+// The message of a list of keys that ascend or not, or why there is none.
+fn to_message(plan: u32, keys: &[u32], ascending: bool, message: &mut [u8]) -> u64
+    requires { ⌜ Decides (Ascending (now keys)) ascending ⌝ }
     ensures { λ r. ⌜ (r ≡ sketchReturnsBy (toMessageAnswer plan (now (keys .entry)) (length (now (message .entry)))) plan (now (keys .entry)) (length (now (message .entry)))) × (now (message .exit) ≡ sketchLeavesBy (toMessageAnswer plan (now (keys .entry)) (length (now (message .entry)))) plan (now (keys .entry)) (now (message .entry))) ⌝ }
 {
-    let sketched = sketch::sketch(plan, keys);
+    let list = sketch::told_answer(keys, ascending);
+    let sketched = sketch::sketch_told(plan, keys, list);
     let answer = sketched.answer;
     let s = sketched.sketch;
     match answer {
@@ -110,8 +138,10 @@ pub extern "C" fn vlomdar_sketch(plan: u32, list: &[u8], message: &mut [u8]) -> 
         return pack(Answer::Refused(Refusal::ShortBuffer(0)), 0, 0);
     }
     let mut keys = [0u32; KEYS];
-    let count = keys_in(list, &mut keys);
-    to_message(plan, &keys[..count], message)
+    let taken = keys_in(list, &mut keys);
+    let count = taken.count;
+    let ascending = taken.ascending;
+    to_message(plan, &keys[..count], ascending, message)
 }
 
 // The difference of a sketch and a home list, in the first bytes of two buffers. A plan has at most as many samples as the two arrays hold, so that shorter
@@ -120,14 +150,17 @@ fn to_lists(s: Sketch, home: &[u8], theirs: &mut [u8], ours: &mut [u8]) -> u64
     ensures { λ r. ⌜ ReconcilesKeys s (now (home .entry)) (now (theirs .entry)) (now (ours .entry)) (record { number = r; theirs = now (theirs .exit); ours = now (ours .exit) }) ⌝ }
 {
     let mut keys = [0u32; KEYS];
-    let count = keys_in(home, &mut keys);
+    let taken = keys_in(home, &mut keys);
+    let count = taken.count;
+    let list = sketch::told_answer(&keys[..count], taken.ascending);
     let mut new = [0u32; rules::MOST_SAMPLES];
     let mut held = [0u32; rules::MOST_SAMPLES];
     let theirs_room = lesser(theirs.len() / KEY_BYTES, rules::MOST_SAMPLES);
     let ours_room = lesser(ours.len() / KEY_BYTES, rules::MOST_SAMPLES);
-    let found = reconcile::reconcile(
+    let found = reconcile::reconcile_told(
         s,
         &keys[..count],
+        list,
         &mut new[..theirs_room],
         &mut held[..ours_room],
     );

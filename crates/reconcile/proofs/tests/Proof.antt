@@ -28,18 +28,15 @@ returns c =
     let a = c .before .before .before .args in
     malformed (a .s) (a .home .now) (a .theirs) (a .ours) (sym (c .before .well-formed .ensures) ∙ not-true _ (c .if1 .taken))
 
-list-answer-requires : tie.Need-list-answer-requires
-list-answer-requires c κs = search needs
-
 enum-told : tie.Need-enum-told
 enum-told c = search needs
 
 returns-2 : tie.Need-returns-2
 returns-2 c =
-    let a = c .before .before .before .before .before .before .args in
+    let a = c .before .before .before .before .before .args in
     let told = c .enum-told .given in
     told .1
-    ∙ bad-list (a .s) (a .home .now) (a .theirs) (a .ours) (sym (c .before .before .before .before .well-formed .ensures) ∙ not-false _ (c .before .before .before .if1 .left)) (told .0 .0) (sym (c .before .before .list-answer .ensures) ∙ told .1)
+    ∙ bad-list (a .s) (a .home .now) (a .theirs) (a .ours) (sym (c .before .before .before .well-formed .ensures) ∙ not-false _ (c .before .before .if1 .left)) (told .0 .0) (sym (c .before .before .before .before .before .pre) ∙ told .1)
 
 enum-told-2 : tie.Need-enum-told-2
 enum-told-2 c = search needs
@@ -51,50 +48,50 @@ samples-requires : tie.Need-samples-requires
 samples-requires c κs = search needs
 
 -- what is known once the sketch and the list have passed
-whole : (c : tie.After-samples) → wellFormed (c .before .before .before .before .before .before .before .before .args .s) ≡ true
-whole c = sym (c .before .before .before .before .before .before .well-formed .ensures) ∙ not-false _ (c .before .before .before .before .before .if1 .left)
+whole : (c : tie.After-samples) → wellFormed (c .before .before .before .before .before .before .before .args .s) ≡ true
+whole c = sym (c .before .before .before .before .before .well-formed .ensures) ∙ not-false _ (c .before .before .before .before .if1 .left)
 
-listed : (c : tie.After-samples) → listAnswer (c .before .before .before .before .before .before .before .before .args .home .now) ≡ Done
-listed c = sym (c .before .before .before .before .list-answer .ensures) ∙ c .before .before .enum-told2 .given .1
+listed : (c : tie.After-samples) → listAnswer (c .before .before .before .before .before .before .before .args .home .now) ≡ Done
+listed c = sym (c .before .before .before .before .before .before .before .pre) ∙ c .before .before .enum-told2 .given .1
 
 -- a test against m is one against the plan's samples
-against : (c : tie.After-samples) (n : ℕ) (b : Bool) → ltb n (c .samples .result) ≡ b → ltb n (samples (c .before .before .before .before .before .before .before .before .args .s .plan)) ≡ b
+against : (c : tie.After-samples) (n : ℕ) (b : Bool) → ltb n (c .samples .result) ≡ b → ltb n (samples (c .before .before .before .before .before .before .before .args .s .plan)) ≡ b
 against c n b e = ap (ltb n) (sym (c .samples .ensures)) ∙ e
 
 returns-3 : tie.Need-returns-3
 returns-3 c =
-    let a = c .before .before .before .before .before .before .before .before .before .args in
+    let a = c .before .before .before .before .before .before .before .before .args in
     short-theirs (a .s) (a .home .now) (a .theirs) (a .ours) (whole (c .before)) (listed (c .before)) (against (c .before) (a .theirs) true (lt-ltb _ _ (c .if2 .taken)))
 
 returns-4 : tie.Need-returns-4
 returns-4 c =
-    let a = c .before .before .before .before .before .before .before .before .before .before .args in
+    let a = c .before .before .before .before .before .before .before .before .before .args in
     short-ours (a .s) (a .home .now) (a .theirs) (a .ours) (whole (c .before .before)) (listed (c .before .before)) (against (c .before .before) (a .theirs) false (le-ltb _ _ (c .before .if2 .left)))
     (against (c .before .before) (a .ours) true (lt-ltb _ _ (c .if3 .taken)))
 
 too-large-requires : tie.Need-too-large-requires
 too-large-requires c κs =
-    let a = c .before .before .before .before .before .before .before .before .before .before .args in
+    let a = c .before .before .before .before .before .before .before .before .before .args in
     let most = samples-most (a .s .plan) in
     let same = c .before .before .samples .ensures in
     (omega arith, formed (a .s) (whole (c .before .before)) .size, legal (a .home .now) (listed (c .before .before)) .short)
 
 -- what the test of the gap says, of the plan's samples
-gap-test : (c : tie.After-too-large) → c .too-large .result ≡ (ltZ (gapOf (c .before .before .before .before .before .before .before .before .before .before .before .args .s .size) (c .before .before .before .before .before .before .before .before .before .before .before .args .home .now)) (negℤ (pos (samples (c .before .before .before .before .before .before .before .before .before .before .before .args .s .plan)))) || ltZ (pos (samples (c .before .before .before .before .before .before .before .before .before .before .before .args .s .plan))) (gapOf (c .before .before .before .before .before .before .before .before .before .before .before .args .s .size) (c .before .before .before .before .before .before .before .before .before .before .before .args .home .now)))
+gap-test : (c : tie.After-too-large) → c .too-large .result ≡ (ltZ (gapOf (c .before .before .before .before .before .before .before .before .before .before .args .s .size) (c .before .before .before .before .before .before .before .before .before .before .args .home .now)) (negℤ (pos (samples (c .before .before .before .before .before .before .before .before .before .before .args .s .plan)))) || ltZ (pos (samples (c .before .before .before .before .before .before .before .before .before .before .args .s .plan))) (gapOf (c .before .before .before .before .before .before .before .before .before .before .args .s .size) (c .before .before .before .before .before .before .before .before .before .before .args .home .now)))
 gap-test c =
-    let a = c .before .before .before .before .before .before .before .before .before .before .before .args in
+    let a = c .before .before .before .before .before .before .before .before .before .before .args in
     let d = gapOf (a .s .size) (a .home .now) in
     c .too-large .ensures ∙ ap (λ (m : ℕ). ltZ d (negℤ (pos m)) || ltZ (pos m) d) (c .before .before .before .samples .ensures)
 
 returns-5 : tie.Need-returns-5
 returns-5 c =
-    let a = c .before .before .before .before .before .before .before .before .before .before .before .before .args in
+    let a = c .before .before .before .before .before .before .before .before .before .before .before .args in
     large-gap (a .s) (a .home .now) (a .theirs) (a .ours) (whole (c .before .before .before .before)) (listed (c .before .before .before .before)) (against (c .before .before .before .before) (a .theirs) false (le-ltb _ _ (c .before .before .before .if2 .left)))
     (against (c .before .before .before .before) (a .ours) false (le-ltb _ _ (c .before .before .if3 .left))) (sym (gap-test (c .before)) ∙ c .if4 .taken)
 
 returns-6 : tie.Need-returns-6
 returns-6 c =
-    let a = c .before .before .before .before .before .before .before .before .before .before .before .before .args in
+    let a = c .before .before .before .before .before .before .before .before .before .before .before .args in
     passed (a .s) (a .home .now) (a .theirs) (a .ours) (whole (c .before .before .before .before)) (listed (c .before .before .before .before)) (against (c .before .before .before .before) (a .theirs) false (le-ltb _ _ (c .before .before .before .if2 .left)))
     (against (c .before .before .before .before) (a .ours) false (le-ltb _ _ (c .before .before .if3 .left))) (sym (gap-test (c .before)) ∙ c .if4 .left)
 
@@ -104,7 +101,6 @@ tests-spec =
     (tie.spec
     well-formed-requires
     returns
-    list-answer-requires
     enum-told
     returns-2
     enum-told-2

@@ -32,7 +32,7 @@ slice-aggregate-to-message : tie.Need-slice-aggregate-to-message
 slice-aggregate-to-message c = sym (length-take-le _ _ (search needs))
 
 to-message-requires : tie.Need-to-message-requires
-to-message-requires c κs = search needs
+to-message-requires c κs = c .before .before .before .keys-in .ensures .told
 
 same-length : tie.Need-same-length
 same-length c = search needs
@@ -41,7 +41,7 @@ returns-2 : tie.Need-returns-2
 returns-2 c =
     let a = c .before .before .before .before .before .before .before .before .before .before .before .args in
     let k = c .before .before .before .before .before .before .keys-in in
-    taken-list (a .plan) (a .list .now) (a .message .now) _ _ (k .result) _ _ (search needs) refl (k .ensures) (c .before .before .to-message .ensures)
+    taken-list (a .plan) (a .list .now) (a .message .now) _ _ (k .result .count) (k .result .ascending) _ _ (search needs) refl (k .ensures) (c .before .before .to-message .ensures)
 
 pub vlomdar-sketch-spec : {M : Type 1} → statement M
 vlomdar-sketch-spec =
