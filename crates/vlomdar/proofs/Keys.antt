@@ -1,8 +1,7 @@
 -- Keys and bytes that a loop moves.
 --
 --   take-least             as many keys as there are, or as there is room for
---   Passed bytes room i after before falls     the first i keys of a buffer stand in front of `after`, which has `room` places; the last of them is `before`, and `falls`
---                          is 0 exactly where they ascend
+--   Passed bytes room i after falls    the first i keys of a buffer stand in front of `after`, which has `room` places, and `falls` is 0 exactly where they ascend
 --   passed-first, passed-next      the first key; one more
 --   passed-none, passed-all        no key, or all that there is room for: they are taken
 --   bytes-put              a copy of keys as bytes, in the words of the contract
@@ -34,10 +33,9 @@ take-least l room =
     (λ p. ap (λ n. take n l) (min-eq-right {n = room} {m = length l} (omega arith)))
     (eq-zero-or-pos (length l - room))
 
-pub record Passed (bytes : List ℕ) (room i : ℕ) (after : List ℕ) (before falls : ℕ) : Type 0 where
+pub record Passed (bytes : List ℕ) (room i : ℕ) (after : List ℕ) (falls : ℕ) : Type 0 where
   pub long : length after ≡ room
   pub copied : take i after ≡ take i (keysOf bytes)
-  pub last : before ≡ getD (keysOf bytes) (i - 1) 0
   pub rises : RisesBy i (keysOf bytes) falls
 
 module _ (bytes : List ℕ) where
@@ -47,20 +45,17 @@ module _ (bytes : List ℕ) where
       let n = keys-length bytes in
       ap (λ k. take k (set keys i key)) (add-one i) ∙ take-suc-set keys i key fits ∙ ap₂ (λ l k. l ++ k ∷ []) c e ∙ sym (take-suc (keysOf bytes) i 0 (omega arith)) ∙ ap (λ k. take k (keysOf bytes)) (sym (add-one i))
 
-  pub passed-first : (keys : List ℕ) {key : ℕ} → 0 < length keys → 0 < length bytes / 4 → key ≡ keyAt bytes 0 → Passed bytes (length (set keys 0 key)) 1 (set keys 0 key) key 0
-  passed-first keys fits there e =
-      let is = e ∙ sym (keys-at bytes 0 there) in
-      record { long = refl; copied = put 0 keys fits there is refl; last = is; rises = rises-none (keysOf bytes) }
+  pub passed-first : (keys : List ℕ) {key : ℕ} → 0 < length keys → 0 < length bytes / 4 → key ≡ keyAt bytes 0 → Passed bytes (length (set keys 0 key)) 1 (set keys 0 key) 0
+  passed-first keys fits there e = record { long = refl; copied = put 0 keys fits there (e ∙ sym (keys-at bytes 0 there)) refl; rises = rises-none (keysOf bytes) }
 
-  pub passed-next : {room i : ℕ} {keys : List ℕ} {before falls key fell : ℕ} → 1 ≤ i → i < room → i < length bytes / 4 → key ≡ keyAt bytes (4 * i) → fell ≡ cond (leb key before) 1 0
-      → Passed bytes room i keys before falls → Passed bytes room (i + 1) (set keys i key) key (falls + fell)
-  passed-next {room} {i} {keys} {before} {falls} {key} {fell} some fits there e f p =
+  pub passed-next : {room i : ℕ} {keys : List ℕ} {falls before key fell : ℕ} → 1 ≤ i → i < room → i < length bytes / 4 → before ≡ keyAt bytes (4 * (i - 1)) → key ≡ keyAt bytes (4 * i) → fell ≡ cond (leb key before) 1 0
+      → Passed bytes room i keys falls → Passed bytes room (i + 1) (set keys i key) (falls + fell)
+  passed-next {room} {i} {keys} {falls} {before} {key} {fell} some fits there b e f p =
       let is : key ≡ getD (keysOf bytes) i 0 = e ∙ sym (keys-at bytes i there) in
       record {
         long = length-set keys i key ∙ p .long;
         copied = put i keys (omega (arith, p .long)) there is (p .copied);
-        last = is ∙ ap (λ k. getD (keysOf bytes) k 0) (omega arith);
-        rises = subst (λ (n : ℕ). RisesBy (i + 1) (keysOf bytes) (falls + n)) (sym (f ∙ ap₂ (λ (k b : ℕ). cond (leb k b) 1 0) is (p .last))) (rises-more some (p .rises));
+        rises = subst (λ (n : ℕ). RisesBy (i + 1) (keysOf bytes) (falls + n)) (sym (f ∙ ap₂ (λ (k b : ℕ). cond (leb k b) 1 0) is (b ∙ sym (keys-at bytes (i - 1) (omega arith))))) (rises-more some (p .rises));
       }
 
   module _ (room : List ℕ) {count : ℕ} (most : count ≡ min (length bytes / 4) (length room)) where
@@ -75,8 +70,8 @@ module _ (bytes : List ℕ) where
       told = subst (λ (n : ℕ). Ascending (take n room)) (sym none) tt;
     }
 
-    pub passed-all : {after : List ℕ} {before falls : ℕ} → Passed bytes (length room) count after before falls → Taken bytes room after count (eqb falls 0)
-    passed-all {after} {before} {falls} p =
+    pub passed-all : {after : List ℕ} {falls : ℕ} → Passed bytes (length room) count after falls → Taken bytes room after count (eqb falls 0)
+    passed-all {after} {falls} p =
         let n = keys-length bytes in
         let long = length-take-le count (keysOf bytes) (omega arith) in
         record {

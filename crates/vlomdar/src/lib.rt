@@ -57,7 +57,7 @@ struct Intake {
 }
 
 // The keys in a buffer, as many of them as there is room for. They are copied and compared in one pass; no key ends it and none makes it branch, so that
-// several are taken at a time.
+// several are taken at a time. The key before is read from its bytes again: handed from turn to turn it would have to be moved across those several.
 fn keys_in(bytes: &[u8], keys: &mut [u32]) -> Intake
     requires { ⌜ length (now keys) ≤ suc listLimit ⌝ }
     ensures { λ r. ⌜ Taken (now (bytes .entry)) (now (keys .entry)) (now (keys .exit)) (r .count) (r .ascending) ⌝ }
@@ -69,15 +69,13 @@ fn keys_in(bytes: &[u8], keys: &mut [u32]) -> Intake
             ascending: true,
         };
     }
-    let mut before = key_at(bytes, 0);
-    keys[0] = before;
+    keys[0] = key_at(bytes, 0);
     let mut falls: u32 = 0;
     let mut i = 1;
     while i < count {
         let key = key_at(bytes, KEY_BYTES * i);
         keys[i] = key;
-        falls += sketch::fall(before, key);
-        before = key;
+        falls += sketch::fall(key_at(bytes, KEY_BYTES * (i - 1)), key);
         i += 1;
     }
     Intake {

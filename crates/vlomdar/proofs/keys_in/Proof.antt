@@ -10,10 +10,10 @@ use Rattle.vlomdar.proofs.keys_in.Statement.{statement}
 use Rattle.vlomdar.proofs.keys_in.Tie as tie
 
 abbrev Inv-loop : tie.InvT-loop
-Inv-loop bytes keys₀ count before₀ falls₀ i₀ keys before falls i = (1 ≤ i) × (i ≤ count) × (falls < i) × Passed bytes (length keys₀) i keys before falls
+Inv-loop bytes keys₀ count falls₀ i₀ keys falls i = (1 ≤ i) × (i ≤ count) × (falls < i) × Passed bytes (length keys₀) i keys falls
 
 abbrev μ-loop : tie.MeasureT-loop
-μ-loop bytes keys₀ count before₀ falls₀ i₀ keys before falls i = count - i
+μ-loop bytes keys₀ count falls₀ i₀ keys falls i = count - i
 
 -- the first write and the loop leave the list as long as it was
 room : (c : tie.At-loop Inv-loop μ-loop) → length (c .loop .keys) ≡ length (c .before .before .before .before .before .before .args .keys .now)
@@ -48,6 +48,15 @@ mul-keys c = search needs
 slice-write-keys-2 : tie.Need-slice-write-keys-2 Inv-loop μ-loop
 slice-write-keys-2 c = let n = room (c .before .before) in omega arith
 
+sub-key-at : tie.Need-sub-key-at Inv-loop μ-loop
+sub-key-at c = search needs
+
+mul-key-at-2 : tie.Need-mul-key-at-2 Inv-loop μ-loop
+mul-key-at-2 c = search needs
+
+key-at-requires-3 : tie.Need-key-at-requires-3 Inv-loop μ-loop
+key-at-requires-3 c κs = search needs
+
 fall-requires : tie.Need-fall-requires Inv-loop μ-loop
 fall-requires c κs = search needs
 
@@ -62,9 +71,9 @@ loop-less c = search needs
 
 loop-again : tie.Need-loop-again Inv-loop μ-loop
 loop-again c =
-    let l = c .before .before .before .loop in
-    let n = room (c .before .before .before) in
-    (search needs, search needs, search needs, passed-next _ (l .inv .0) (omega arith) (search needs) (c .before .key-at2 .ensures) (c .fall .ensures .0) (l .inv .3))
+    let l = c .before .before .before .before .loop in
+    let n = room (c .before .before .before .before) in
+    (search needs, search needs, search needs, passed-next _ (l .inv .0) (omega arith) (search needs) (c .before .key-at3 .ensures) (c .before .before .key-at2 .ensures) (c .fall .ensures .0) (l .inv .3))
 
 same-length : tie.Need-same-length Inv-loop μ-loop
 same-length c = room (c .before)
@@ -75,7 +84,7 @@ returns-2 c =
     let a = c .before .before .before .before .before .before .before .args in
     let least = c .before .before .before .before .lesser in
     let all : l .i ≡ least .result = omega arith in
-    passed-all _ _ (least .ensures) (subst (λ (n : ℕ). Passed (a .bytes .now) (length (a .keys .now)) n (l .keys) (l .before) (l .falls)) all (subst (λ (n : ℕ). Passed (a .bytes .now) n (l .i) (l .keys) (l .before) (l .falls)) (length-set (a .keys .now) 0 _) (l .inv .3)))
+    passed-all _ _ (least .ensures) (subst (λ (n : ℕ). Passed (a .bytes .now) (length (a .keys .now)) n (l .keys) (l .falls)) all (subst (λ (n : ℕ). Passed (a .bytes .now) n (l .i) (l .keys) (l .falls)) (length-set (a .keys .now) 0 _) (l .inv .3)))
 
 pub keys-in-spec : {M : Type 1} → statement M
 keys-in-spec =
@@ -92,6 +101,9 @@ keys-in-spec =
     key-at-requires-2
     mul-keys
     slice-write-keys-2
+    sub-key-at
+    mul-key-at-2
+    key-at-requires-3
     fall-requires
     add-falls
     add-i
