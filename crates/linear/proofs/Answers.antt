@@ -24,9 +24,10 @@ use Rattle.algebra.specs.Arithmetic.{inverseOf, mulOf}
 use Rattle.algebra.specs.Linear.{Solves, meets}
 use Rattle.rules.specs.Numbers.{modulus}
 use Rattle.residue.specs.Field.{𝓕, res, zero-is, sub-is, mul-is, inverse-is, res-eq-zero, eq-zero-res, res-mod}
+use Rattle.residue.specs.Folded.{digitSum}
 use Rattle.linear.specs.Solved.{vector, matrix, Solution, Insoluble}
 use Rattle.linear.specs.Echelon.{Sifted, echelon-none, sifted-of, kept, passed, refuted, closed-all, insoluble}
-use Rattle.linear.specs.Rows.{digitSum, minusInverse, Zeros, Loaded, Scaled, Related, SiftedTo, Refuted, Reduced, Substituted}
+use Rattle.linear.specs.Rows.{minusInverse, Zeros, Loaded, Scaled, Related, SiftedTo, Refuted, Reduced, Substituted}
 use Rattle.linear.proofs.Piles.{res-digit-sum}
 use Rattle.linear.proofs.Places.{inside}
 open Field 𝓕 using (ring as 𝓡, inv, inv-mul)
