@@ -88,7 +88,7 @@ fn values_case(label: &[u8], plan: u32, keys: &[u32]) -> Answer
         return answer;
     }
     let s = made.sketch;
-    let m = sketch::samples(s.plan);
+    let m = plan::samples(s.plan);
     let values = s.values;
     print_keys(&values[..m]);
     io::write_all(STDOUT_FILENO, b"\n");
@@ -312,7 +312,7 @@ fn pair(plan: u32, round: u32, seed: u32) -> u32
     requires { ⌜ (plan < 16) × (round < 8) × (seed < 65536) ⌝ }
     ensures { λ r. ⌜ r ≤ 1 ⌝ }
 {
-    let most = sketch::samples(plan as u8);
+    let most = plan::samples(plan as u8);
     let mut dome = [0u32; KEYS];
     let mut home = [0u32; KEYS];
     let count = 8 * (round as usize + 1);

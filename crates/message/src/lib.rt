@@ -108,7 +108,7 @@ pub struct Written {
 pub fn write(s: Sketch, buffer: &mut [u8]) -> Written
     ensures { λ r. ⌜ (r .answer ≡ writeAnswer s (length (now (buffer .entry)))) × (r .length ≡ writeLength s (length (now (buffer .entry)))) × (now (buffer .exit) ≡ writeBuffer s (now (buffer .entry))) ⌝ }
 {
-    if !sketch::well_formed(s) {
+    if !plan::well_formed(s) {
         return Written {
             answer: Answer::Refused(Refusal::MalformedSketch),
             length: 0,
@@ -117,7 +117,7 @@ pub fn write(s: Sketch, buffer: &mut [u8]) -> Written
     let plan = s.plan;
     let size = s.size;
     let values = s.values;
-    let m = sketch::samples(plan);
+    let m = plan::samples(plan);
     let n = message_length(m);
     if buffer.len() < n {
         return Written {
@@ -319,7 +319,7 @@ pub fn read(message: &[u8]) -> Sketched
         return refused(Refusal::UnknownVersion);
     }
     let plan = header.plan as u8;
-    let m = sketch::samples(plan);
+    let m = plan::samples(plan);
     if message.len() != message_length(m) {
         return refused(Refusal::WrongLength);
     }

@@ -145,7 +145,7 @@ fn tests(s: Sketch, home: &[u32], list: Answer, theirs: usize, ours: usize) -> A
     requires { ⌜ list ≡ listAnswer (now home) ⌝ }
     ensures { λ r. ⌜ r ≡ reconcileTests s (now (home .entry)) theirs ours ⌝ }
 {
-    if !sketch::well_formed(s) {
+    if !plan::well_formed(s) {
         return Answer::Refused(Refusal::MalformedSketch);
     }
     if let Answer::Refused(_) = list {
@@ -153,7 +153,7 @@ fn tests(s: Sketch, home: &[u32], list: Answer, theirs: usize, ours: usize) -> A
     }
     let plan = s.plan;
     let n = s.size as usize;
-    let m = sketch::samples(plan);
+    let m = plan::samples(plan);
     if theirs < m {
         return Answer::Refused(Refusal::ShortBuffer(0));
     }
@@ -188,7 +188,7 @@ pub fn reconcile_told(
     }
     let plan = s.plan;
     let size = s.size;
-    let m = sketch::samples(plan);
+    let m = plan::samples(plan);
     let v = s.values;
     let mut new = [0u32; rules::MOST_SAMPLES];
     let mut held = [0u32; rules::MOST_SAMPLES];
@@ -215,5 +215,5 @@ pub fn reconcile_told(
 pub fn reconcile(s: Sketch, home: &[u32], theirs: &mut [u32], ours: &mut [u32]) -> Reconciled
     ensures { λ r. ⌜ Reconciles s (now (home .entry)) (now (theirs .entry)) (now (ours .entry)) (record { answer = r .answer; theirs-count = r .theirs; ours-count = r .ours; theirs = now (theirs .exit); ours = now (ours .exit) }) ⌝ }
 {
-    reconcile_told(s, home, sketch::list_answer(home), theirs, ours)
+    reconcile_told(s, home, list::answer(home), theirs, ours)
 }

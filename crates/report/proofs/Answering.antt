@@ -23,9 +23,9 @@ use Rattle.rules.specs.declared.Sketch.{Sketch}
 use Rattle.rules.specs.declared.Refusal.{Refusal}
 use Rattle.rules.specs.declared.Answer.{Answer}
 use Rattle.rules.specs.declared.Answer.the-variants.{Done, Refused}
-use Rattle.report.specs.Puts.{Puts, textRoom}
+use Rattle.report_text.specs.Puts.{Puts, textRoom}
 use Rattle.report.specs.Answers.{Written, Told}
-use Rattle.report.proofs.Tests.{pick-true, pick-false}
+use Rattle.rules.specs.Tests.{pick-true, pick-false}
 
 module _ (before after : List ℕ) (end : ℕ) where
   -- a text of which more is known

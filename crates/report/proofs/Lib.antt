@@ -1,10 +1,3 @@
--- Laws that several proofs cite.
-pub mod Tests
-pub mod Words
-pub mod Ahead
-pub mod KeyLines
-pub mod ByteLines
-pub mod Printing
-pub mod Decimals
+-- What reconcile leaves, as far as the lines need it: Outcomes. From the buffer to the contracts: Answering.
 pub mod Outcomes
 pub mod Answering

@@ -9,7 +9,7 @@ use mathlib.Core.List.{List}
 use Prim.Native.Nat.{ℕ, _-_, _≤_}
 use lib.ListN.{length, take, drop, replicate}
 use Rattle.rules.specs.Report.{Reports}
-use Rattle.report.specs.Puts.{Puts, textRoom}
+use Rattle.report_text.specs.Puts.{Puts, textRoom}
 
 pub record Written (P : List ℕ → Type 0) (before after : List ℕ) (end : ℕ) : Type 0 where
   pub text : List ℕ

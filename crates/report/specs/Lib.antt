@@ -1,3 +1,2 @@
-pub mod Lines
-pub mod Puts
+-- What the report leaves in its buffer, and what it returns: Answers.
 pub mod Answers

@@ -6,11 +6,8 @@ ghost use Prim.Native.Nat.{_≤_};
 ghost use lib.ListN.{length};
 ghost use Rattle.rules.specs.Calls.{readAnswer, readResult};
 ghost use Rattle.rules.specs.Report.{inputLimit, keysLimit, Reconciled, AfterRead, secondLine, withSecond, Says, Reports};
-ghost use Rattle.report.specs.Puts.{textRoom};
+ghost use Rattle.report_text.specs.Puts.{textRoom};
 ghost use Rattle.report.specs.Answers.{Written, Told};
-
-mod reading; // the two lines
-mod writing; // the answer's lines
 
 // "standard input, at most 60,000 bytes"; "It takes at most 8,192 keys"; a byte of the message takes two of the input.
 pub const INPUT_LIMIT: usize = 60000;
@@ -38,11 +35,11 @@ fn put_outcome(out: &mut [u8], s: Sketch, keys: &[u32]) -> usize
     let left = reconcile::reconcile(s, keys, &mut theirs, &mut ours);
     let answer = left.answer;
     if let Answer::Refused(_) = answer {
-        return writing::put_refused(out, answer);
+        return report_text::put_refused(out, answer);
     }
     let t = left.theirs;
     let o = left.ours;
-    writing::put_found(
+    report_text::put_found(
         out,
         s.plan as u32,
         s.size,
@@ -60,7 +57,7 @@ fn put_answer(out: &mut [u8], keys: &[u32], message: &[u8]) -> usize
     let read = message::read(message);
     let answer = read.answer;
     if let Answer::Refused(_) = answer {
-        return writing::put_refused(out, answer);
+        return report_text::put_refused(out, answer);
     }
     let s = read.sketch;
     put_outcome(out, s, keys)
@@ -72,12 +69,12 @@ fn put_second(out: &mut [u8], keys: &[u32], rest: &[u8]) -> usize
     ensures { λ r. ⌜ Written (Says (withSecond (now (keys .entry)) (secondLine (now (rest .entry))))) (now (out .entry)) (now (out .exit)) r ⌝ }
 {
     let mut message = [0u8; MESSAGE_LIMIT];
-    let line = reading::second_line(rest, &mut message);
+    let line = report_input::second_line(rest, &mut message);
     if !line.good {
-        return writing::put_bad_line(out, 2);
+        return report_text::put_bad_line(out, 2);
     }
     if line.next < rest.len() {
-        return writing::put_bad_line(out, 3);
+        return report_text::put_bad_line(out, 3);
     }
     let n = line.count;
     put_answer(out, keys, &message[..n])
@@ -88,12 +85,12 @@ fn put_report(out: &mut [u8], input: &[u8]) -> usize
     ensures { λ r. ⌜ Written (Reports (now (input .entry))) (now (out .entry)) (now (out .exit)) r ⌝ }
 {
     if INPUT_LIMIT < input.len() {
-        return writing::put_text(out, 0, b"too long\n");
+        return report_text::put_text(out, 0, b"too long\n");
     }
     let mut keys = [0u32; KEYS_LIMIT];
-    let line = reading::first_line(input, &mut keys);
+    let line = report_input::first_line(input, &mut keys);
     if !line.good {
-        return writing::put_bad_line(out, 1);
+        return report_text::put_bad_line(out, 1);
     }
     let n = line.count;
     let next = line.next;

@@ -88,9 +88,9 @@ fn update(s: Sketch, key: Key, inside: bool) -> Sketched
     ensures { λ r. ⌜ r .sketch ≡ cond inside (removeResult s (key .0)) (addResult s (key .0)) ⌝ }
 {
     if inside {
-        sketch::remove_from(s, key)
+        update::remove_from(s, key)
     } else {
-        sketch::add_to(s, key)
+        update::add_to(s, key)
     }
 }
 

@@ -23,7 +23,7 @@ use Rattle.algebra.specs.Sets.{Ascending}
 use Rattle.rules.specs.Entries.{keysOf, keyAt, bytesOf}
 use Rattle.rules.specs.Packed.{keys-length, keys-at, bytes-length}
 use Rattle.area.proofs.Copies.{Copied, copied-all}
-use Rattle.sketch.proofs.Order.{RisesBy, rises-none, rises-more, rises-front, rises-told}
+use Rattle.list.proofs.Order.{RisesBy, rises-none, rises-more, rises-front, rises-told}
 use Rattle.vlomdar.specs.Taken.{Taken}
 
 take-least : (l : List ℕ) (room : ℕ) → take (min (length l) room) l ≡ take room l

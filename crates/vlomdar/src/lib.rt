@@ -75,7 +75,7 @@ fn keys_in(bytes: &[u8], keys: &mut [u32]) -> Intake
     while i < count {
         let key = key_at(bytes, KEY_BYTES * i);
         keys[i] = key;
-        falls += sketch::fall(key_at(bytes, KEY_BYTES * (i - 1)), key);
+        falls += list::fall(key_at(bytes, KEY_BYTES * (i - 1)), key);
         i += 1;
     }
     Intake {
@@ -112,7 +112,7 @@ fn to_message(plan: u32, keys: &[u32], ascending: bool, message: &mut [u8]) -> u
     requires { ⌜ Decides (Ascending (now keys)) ascending ⌝ }
     ensures { λ r. ⌜ (r ≡ sketchReturnsBy (toMessageAnswer plan (now (keys .entry)) (length (now (message .entry)))) plan (now (keys .entry)) (length (now (message .entry)))) × (now (message .exit) ≡ sketchLeavesBy (toMessageAnswer plan (now (keys .entry)) (length (now (message .entry)))) plan (now (keys .entry)) (now (message .entry))) ⌝ }
 {
-    let list = sketch::told_answer(keys, ascending);
+    let list = list::answer_told(keys, ascending);
     let sketched = sketch::sketch_told(plan, keys, list);
     let answer = sketched.answer;
     let s = sketched.sketch;
@@ -150,7 +150,7 @@ fn to_lists(s: Sketch, home: &[u8], theirs: &mut [u8], ours: &mut [u8]) -> u64
     let mut keys = [0u32; KEYS];
     let taken = keys_in(home, &mut keys);
     let count = taken.count;
-    let list = sketch::told_answer(&keys[..count], taken.ascending);
+    let list = list::answer_told(&keys[..count], taken.ascending);
     let mut new = [0u32; rules::MOST_SAMPLES];
     let mut held = [0u32; rules::MOST_SAMPLES];
     let theirs_room = lesser(theirs.len() / KEY_BYTES, rules::MOST_SAMPLES);

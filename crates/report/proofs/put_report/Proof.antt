@@ -14,7 +14,7 @@ use borrow.Author.Tests.{not-true, not-false}
 use Rattle.rules.specs.Report.{secondLine, withFirst, withSecond, Says}
 use Rattle.report.specs.Answers.{Written}
 use Rattle.rules.specs.Report.{Line}
-use Rattle.report.proofs.Ahead.{to-end}
+use Rattle.report_input.proofs.Ahead.{to-end}
 use Rattle.report.proofs.Answering.{bad-form, too-long, looked-at}
 use Rattle.report.proofs.put_report.Statement.{statement}
 use Rattle.report.proofs.put_report.Tie as tie

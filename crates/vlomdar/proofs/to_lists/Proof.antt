@@ -56,11 +56,11 @@ keys-in-requires c κs = search needs
 array-share-prefix-keys : tie.Need-array-share-prefix-keys
 array-share-prefix-keys c = search needs
 
-slice-aggregate-told-answer : tie.Need-slice-aggregate-told-answer
-slice-aggregate-told-answer c = sym (length-take-le _ _ (search needs))
+slice-aggregate-answer-told : tie.Need-slice-aggregate-answer-told
+slice-aggregate-answer-told c = sym (length-take-le _ _ (search needs))
 
-told-answer-requires : tie.Need-told-answer-requires
-told-answer-requires c κs = c .before .before .keys-in .ensures .told
+answer-told-requires : tie.Need-answer-told-requires
+answer-told-requires c κs = c .before .before .keys-in .ensures .told
 
 lesser-requires : tie.Need-lesser-requires
 lesser-requires c κs = search needs
@@ -87,7 +87,7 @@ slice-aggregate-reconcile-told-3 : tie.Need-slice-aggregate-reconcile-told-3
 slice-aggregate-reconcile-told-3 c = sym (length-take-le _ _ (search needs))
 
 reconcile-told-requires : tie.Need-reconcile-told-requires
-reconcile-told-requires c κs = c .before .before .before .before .before .told-answer .ensures
+reconcile-told-requires c κs = c .before .before .before .before .before .answer-told .ensures
 
 array-share-prefix-new : tie.Need-array-share-prefix-new
 array-share-prefix-new c = theirs-stand (c .before .before)
@@ -126,8 +126,8 @@ to-lists-spec =
     slice-aggregate-keys-in
     keys-in-requires
     array-share-prefix-keys
-    slice-aggregate-told-answer
-    told-answer-requires
+    slice-aggregate-answer-told
+    answer-told-requires
     lesser-requires
     lesser-requires-2
     array-share-prefix-keys-2

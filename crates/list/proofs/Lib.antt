@@ -1,0 +1,2 @@
+-- A list told legal at a glance: Order.
+pub mod Order

@@ -1,0 +1,2 @@
+-- What owning a sketch says of its array: Sized.
+pub mod Sized

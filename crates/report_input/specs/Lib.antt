@@ -1,0 +1,2 @@
+-- What reading a line gives: Lines.
+pub mod Lines

@@ -1,0 +1,2 @@
+-- What writing into a lent buffer leaves: Puts.
+pub mod Puts

@@ -1,0 +1,5 @@
+-- What the contracts cite beside document 01: Changes, Updates. What is shown of the running sketch: Accepted, Running.
+pub mod Changes
+pub mod Updates
+pub mod Accepted
+pub mod Running
