@@ -1,10 +1,3 @@
-pub mod Gathered
-pub mod Filled
-pub mod Answers
-pub mod Values
-pub mod Bodies
+-- The order of tests on a read and on a write: Order, Writes.
 pub mod Order
 pub mod Writes
-pub mod Lent
-pub mod Started
-pub mod Apart

@@ -19,8 +19,8 @@ use Rattle.rules.specs.declared.Refusal.the-variants.{WrongLength, UnknownVersi
 use Rattle.rules.specs.declared.Answer.the-variants.{Done, Refused}
 use Rattle.rules.specs.declared.Sketch.{Sketch}
 use Rattle.rules.specs.declared.Sketched.{Sketched}
-use Rattle.message.specs.Parts.{valuesOf, bodyAnswer}
-use Rattle.message.proofs.Answers.{gives-done, gives-refused}
+use Rattle.unpacking.specs.Parts.{valuesOf, bodyAnswer}
+use Rattle.rules.specs.Tests.{gives-done, gives-refused}
 
 module _ (b : List ℕ) where
   pub empty : length b ≡ 0 → readAnswer b ≡ Refused WrongLength

@@ -22,9 +22,9 @@ use Rattle.rules.specs.declared.Refusal.the-variants.{MalformedSketch, ShortBuf
 use Rattle.rules.specs.declared.Answer.{Answer}
 use Rattle.rules.specs.declared.Answer.the-variants.{Done, Refused}
 use Rattle.rules.specs.declared.Sketch.{Sketch}
-use Rattle.message.specs.Positions.{fieldBits}
-use Rattle.message.specs.Packing.{bytes-length}
-use Rattle.message.proofs.Answers.{gives-done, gives-refused}
+use Rattle.packing.specs.Positions.{fieldBits}
+use Rattle.packing.specs.Packing.{bytes-length}
+use Rattle.rules.specs.Tests.{gives-done, gives-refused}
 
 module _ (s : Sketch) where
   -- how many bytes the message has

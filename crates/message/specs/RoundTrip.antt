@@ -37,7 +37,7 @@ use Rattle.rules.specs.declared.Refusal.{Refusal}
 use Rattle.rules.specs.declared.Refusal.the-variants.{WrongLength, UnknownVersion, LargeSize, BadValue, PaddingSet}
 use Rattle.rules.specs.declared.Answer.{Answer}
 use Rattle.rules.specs.declared.Answer.the-variants.{Done}
-use Rattle.message.specs.Packing.{Below, below-append, below-drop, padded, padded-self, padded-part, padded-again, bits-below, number-self, number-none, bits-number, all-length, all-below, all-number, blocks, all-blocks, bytes-length, bytes-below, all-bytes, bytes-all, field-bytes, field-below}
+use Rattle.packing.specs.Packing.{Below, below-append, below-drop, padded, padded-self, padded-part, padded-again, bits-below, number-self, number-none, bits-number, all-length, all-below, all-number, blocks, all-blocks, bytes-length, bytes-below, all-bytes, bytes-all, field-bytes, field-below}
 
 -- "the first m are 1 to 65,536"
 abbrev pub GoodValue : ℕ → Type 0

@@ -24,7 +24,7 @@ use Rattle.rules.specs.declared.Refusal.{Refusal}
 use Rattle.rules.specs.declared.Answer.{Answer}
 use Rattle.rules.specs.declared.Answer.the-variants.{Done, Refused}
 use Rattle.message.specs.declared.Written.{Written}
-use Rattle.reconcile.specs.InField.{one-difference}
+use Rattle.search.specs.InField.{one-difference}
 use Rattle.reconcile.specs.Passing.{Passing, passing}
 
 pub one-difference-of : (s : Sketch) (home T₁ O₁ T₂ O₂ : List ℕ) → WellFormed s → Keys home → DifferenceOf s home T₁ O₁ → DifferenceOf s home T₂ O₂ → (T₁ ≡ T₂) × (O₁ ≡ O₂)

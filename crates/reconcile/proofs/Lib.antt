@@ -1,5 +1,3 @@
--- Laws that proofs of this crate share: of the order of tests (Order), of the divided pair (Sifting), of the search (Searching), of the answer (Outcomes).
+-- Laws that proofs of this crate share: of the order of tests (Order), of the answer (Outcomes).
 pub mod Order
-pub mod Sifting
-pub mod Searching
 pub mod Outcomes

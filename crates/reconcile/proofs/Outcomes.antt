@@ -23,9 +23,9 @@ use Rattle.rules.specs.declared.Refusal.{Refusal}
 use Rattle.rules.specs.declared.Refusal.the-variants.{NoDifference}
 use Rattle.rules.specs.declared.Answer.{Answer}
 use Rattle.rules.specs.declared.Answer.the-variants.{Done, Refused}
-use Rattle.reconcile.specs.InField.{Good}
+use Rattle.search.specs.InField.{Good}
 use Rattle.reconcile.specs.Passing.{Passing}
-use Rattle.reconcile.specs.Search.{Found, Searched}
+use Rattle.search.specs.Search.{Found, Searched}
 
 module _ (s : Sketch) (home theirs ours : List ℕ) where
   pub record Asked (m : ℕ) : Type 0 where

@@ -1,6 +1,3 @@
--- The argument (Passing, InField, Method), and what the search answers (Search); within what bounds (Bounds).
+-- What passes the tests: Passing. Within what bounds an outcome lies: Bounds.
 pub mod Passing
-pub mod InField
-pub mod Method
-pub mod Search
 pub mod Bounds

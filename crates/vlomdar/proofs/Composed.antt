@@ -26,7 +26,7 @@ use Rattle.rules.specs.Messages.{messageLength, message as messageOf}
 use Rattle.rules.specs.Refusals.{numberOf, placeOf, when, _then_, given}
 use Rattle.rules.specs.Calls.{listAnswer, sketchAnswer, sketchResult, writeAnswer, writeLength, writeBuffer}
 use Rattle.rules.specs.Entries.{keysOf, packed, returned, toMessageAnswer, sketchEntryAnswer, sketchReturnsBy, sketchLeavesBy, sketchReturns, sketchLeaves}
-use Rattle.vlomdar.specs.Taken.{Taken}
+use Rattle.encoding.specs.Taken.{Taken}
 use Rattle.rules.specs.declared.Sketch.{Sketch}
 use Rattle.rules.specs.declared.Refusal.{Refusal}
 use Rattle.rules.specs.declared.Refusal.the-variants.{UnknownPlan, LongList, ShortBuffer}

@@ -19,7 +19,7 @@ use Rattle.rules.specs.Entries.{keysOf, bytesOf, packed, frontBytes, Reconciles
 use Rattle.rules.specs.Packed.{SmallPlace, keys-length}
 use Rattle.rules.specs.declared.Sketch.{Sketch}
 use Rattle.reconcile.specs.Bounds.{Bounds, bounds}
-use Rattle.vlomdar.specs.Taken.{Taken}
+use Rattle.encoding.specs.Taken.{Taken}
 use Rattle.vlomdar.proofs.Widened.{Lent, widened, widen}
 
 pub record Found (s : Sketch) (home theirs ours : List ℕ) (left : Left) : Type 0 where

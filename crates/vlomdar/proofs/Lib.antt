@@ -1,5 +1,4 @@
--- Laws that proofs of this crate share: keys and bytes that a loop moves; sketch and write together; reconcile with buffers of its own, and with the caller's; what comes back.
-pub mod Keys
+-- Sketch and write together: Composed. Reconcile with buffers of its own, and with the caller's: Widened, Found, Entered. What comes back: Told.
 pub mod Composed
 pub mod Widened
 pub mod Found

@@ -11,9 +11,9 @@ use Rattle.rules.specs.Messages.{version, versionWidth, planAt, planWidth, mess
 use Rattle.rules.specs.Calls.{messageSamples, readAnswer}
 use Rattle.rules.specs.declared.Refusal.the-variants.{WrongLength, UnknownVersion, LargeSize}
 use Rattle.rules.specs.declared.Answer.the-variants.{Done}
-use Rattle.message.specs.Packing.{field-below}
-use Rattle.message.specs.Parts.{valuesOf, noValues, bodyAnswer}
-use Rattle.message.proofs.Answers.{gives-done}
+use Rattle.packing.specs.Packing.{field-below}
+use Rattle.unpacking.specs.Parts.{valuesOf, noValues, bodyAnswer}
+use Rattle.rules.specs.Tests.{gives-done}
 use Rattle.message.proofs.Order.{empty, unknown-version, wrong-length, large-size, to-body, gives-blank, gives-sketch, made}
 use Rattle.message.proofs.read.Statement.{statement}
 use Rattle.message.proofs.read.Tie as tie

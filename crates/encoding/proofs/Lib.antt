@@ -1,0 +1,2 @@
+-- Keys and bytes that a loop moves: Keys.
+pub mod Keys

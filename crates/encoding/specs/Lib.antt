@@ -1,0 +1,2 @@
+-- What taking keys out of a buffer leaves: Taken.
+pub mod Taken
