@@ -1,4 +1,4 @@
-// The test of a list: at most so many keys, each legal and above the one before it.
+// Lists of keys: the test of a list, which has at most so many keys, each legal and above the one before it; and whether it holds a key.
 use rules::Answer;
 use rules::KEY_LIMIT;
 use rules::LIST_LIMIT;
@@ -9,7 +9,7 @@ ghost use Prim.Native.Nat.{_-_, _≤_};
 ghost use lib.Dec.{leb};
 ghost use lib.ListN.{length, getD};
 ghost use Rattle.algebra.specs.Decided.{Decides};
-ghost use Rattle.algebra.specs.Sets.{Ascending};
+ghost use Rattle.algebra.specs.Sets.{_∈_, Ascending};
 ghost use Rattle.rules.specs.Numbers.{keyLimit, listLimit};
 ghost use Rattle.rules.specs.Calls.{keysAnswer, listAnswer};
 
@@ -92,4 +92,26 @@ pub fn answer(keys: &[u32]) -> Answer
         return Answer::Refused(Refusal::LongList);
     }
     answer_told(keys, ascends(keys))
+}
+
+// Whether an ascending list holds a key, by halving.
+pub fn holds(keys: &[u32], key: u32) -> bool
+    requires { ⌜ Ascending (now keys) ⌝ }
+    ensures { λ r. ⌜ Decides (key ∈ now (keys .entry)) r ⌝ }
+{
+    let mut low = 0;
+    let mut high = keys.len();
+    while low < high {
+        let middle = low + (high - low) / 2;
+        let at = keys[middle];
+        if at == key {
+            return true;
+        }
+        if at < key {
+            low = middle + 1;
+        } else {
+            high = middle;
+        }
+    }
+    false
 }

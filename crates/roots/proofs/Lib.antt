@@ -1,9 +1,3 @@
--- Laws that the proofs of this crate's functions cite: what one turn of each loop adds, and what its end says.
-pub mod Halving
+-- The least of a list: Choosing. Roots put one after the other: Finding.
 pub mod Choosing
-pub mod Convolving
-pub mod Filling
-pub mod Folding
-pub mod Growing
-pub mod Ending
 pub mod Finding

@@ -1,6 +1,3 @@
--- The roots of a polynomial over the residues modulo the prime of document 01: what is found, and why it is all there is.
+-- What is found: Answers. The least that is left: Choice.
 pub mod Answers
-pub mod Squares
-pub mod Generated
-pub mod Descent
-pub mod Levels
+pub mod Choice

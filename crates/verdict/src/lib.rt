@@ -15,7 +15,7 @@ pub fn new_to(home: &[u32], theirs: &[u32]) -> bool
 {
     let mut i = 0;
     while i < theirs.len() {
-        if roots::holds(home, theirs[i]) {
+        if list::holds(home, theirs[i]) {
             return false;
         }
         i += 1;
