@@ -6,7 +6,7 @@ use rules::Refusal;
 ghost use mathlib.Core.Path.{_≡_};
 ghost use mathlib.Core.Bool.{cond};
 ghost use Prim.Native.Nat.{_-_, _≤_};
-ghost use lib.Dec.{leb};
+ghost use lib.Dec.{ltb, leb};
 ghost use lib.ListN.{length, getD};
 ghost use Rattle.algebra.specs.Decided.{Decides};
 ghost use Rattle.algebra.specs.Sets.{_∈_, Ascending};
@@ -67,13 +67,19 @@ fn first_bad(keys: &[u32]) -> Answer
     Answer::Done
 }
 
+fn too_long(keys: &[u32]) -> bool
+    ensures { λ r. ⌜ r ≡ ltb listLimit (length (now (keys .entry))) ⌝ }
+{
+    (LIST_LIMIT as usize) < keys.len()
+}
+
 // What is wrong with a list, if anything: too long, or its first bad key. Whether the keys ascend is told by the caller, who may have seen it on the way. A bad
 // key is looked for only where there is one: nearly every list is legal, which is told faster.
 pub fn answer_told(keys: &[u32], ascending: bool) -> Answer
     requires { ⌜ Decides (Ascending (now keys)) ascending ⌝ }
     ensures { λ r. ⌜ r ≡ listAnswer (now (keys .entry)) ⌝ }
 {
-    if (LIST_LIMIT as usize) < keys.len() {
+    if too_long(keys) {
         return Answer::Refused(Refusal::LongList);
     }
     if ascending {
@@ -88,7 +94,7 @@ pub fn answer_told(keys: &[u32], ascending: bool) -> Answer
 pub fn answer(keys: &[u32]) -> Answer
     ensures { λ r. ⌜ r ≡ listAnswer (now (keys .entry)) ⌝ }
 {
-    if (LIST_LIMIT as usize) < keys.len() {
+    if too_long(keys) {
         return Answer::Refused(Refusal::LongList);
     }
     answer_told(keys, ascends(keys))
