@@ -17,9 +17,9 @@ pub const SIZE_WIDTH: usize = 15;
 
 pub const VALUE_WIDTH: usize = 17;
 
-pub const PLAN_AT: usize = VERSION_WIDTH;
+const PLAN_AT: usize = VERSION_WIDTH;
 
-pub const SIZE_AT: usize = PLAN_AT + PLAN_WIDTH;
+const SIZE_AT: usize = PLAN_AT + PLAN_WIDTH;
 
 pub const VALUES_AT: usize = SIZE_AT + SIZE_WIDTH;
 

@@ -9,7 +9,7 @@ ghost use Rattle.algebra.specs.Decided.{Decides};
 ghost use Rattle.verdict.specs.Checked.{NewTo, Agrees, Checked};
 
 // Whether no key of theirs is at home.
-pub fn new_to(home: &[u32], theirs: &[u32]) -> bool
+fn new_to(home: &[u32], theirs: &[u32]) -> bool
     requires { ⌜ Ascending (now home) ⌝ }
     ensures { λ r. ⌜ Decides (NewTo (now (home .entry)) (now (theirs .entry))) r ⌝ }
 {
@@ -24,7 +24,7 @@ pub fn new_to(home: &[u32], theirs: &[u32]) -> bool
 }
 
 // Whether value of theirs × value of home equals v × value of ours at each of the first m points, b being home's values.
-pub fn agrees(m: usize, b: &[u32], v: &[u32], theirs: &[u32], ours: &[u32]) -> bool
+fn agrees(m: usize, b: &[u32], v: &[u32], theirs: &[u32], ours: &[u32]) -> bool
     requires { ⌜ (m ≤ mostSamples) × (m ≤ length (now b)) × (m ≤ length (now v)) ⌝ }
     ensures { λ r. ⌜ Decides (Agrees m (now (b .entry)) (now (v .entry)) (now (theirs .entry)) (now (ours .entry))) r ⌝ }
 {
