@@ -22,11 +22,13 @@ ARCHIVE = target/staticlib/libvlomdar.a
 REPORT = target/bin/night_report
 SOURCES = crates.txt $(shell find crates -name '*.rt' -o -name '*.antt')
 
-.PHONY: all check check-header check-example check-entries check-install against bench-packages bench figures install clean
+.PHONY: all check check-header check-example check-entries check-install against against-itself against-calls against-memory against-damage bench-packages bench figures install clean
 
 all: $(ARCHIVE) build/exchange
 
+# What the archive rests on is proved first: `rt check` takes several crates at a time, `rt staticlib` one after the other.
 $(ARCHIVE): $(SOURCES)
+	$(RT) check $(shell sed -n 's/^vlomdar://p' crates.txt)
 	$(RT) staticlib vlomdar
 	touch $@
 
@@ -73,10 +75,25 @@ check-install: $(ARCHIVE) $(REPORT) | build
 # Another way to the same answers: thousands of random calls, every byte of every buffer compared.
 AGAINST = VLOMDAR_LIB=$(CURDIR)/target/staticlib VLOMDAR_REPORT=$(CURDIR)/$(REPORT)
 
-against: $(ARCHIVE) $(REPORT)
+against: against-itself against-calls against-memory against-damage
+	@echo "second implementation: all checks passed"
+
+AGAINST_PROGRAM = tests/target/release/against
+
+$(AGAINST_PROGRAM): $(ARCHIVE) $(shell find tests/second tests/against -name '*.rs' -o -name Cargo.toml)
+	cd tests && VLOMDAR_LIB=$(CURDIR)/target/staticlib cargo build --offline --quiet --release -p against
+	touch $@
+
+against-itself: | $(AGAINST_PROGRAM)
 	cd tests && cargo test --offline --quiet -p second
-	cd tests && $(AGAINST) cargo run --offline --quiet --release -p against
+
+against-calls: $(AGAINST_PROGRAM) $(REPORT)
+	cd tests && $(AGAINST) target/release/against
+
+against-memory: $(AGAINST_PROGRAM) $(REPORT)
 	cd tests && $(AGAINST) valgrind --quiet --error-exitcode=9 target/release/against short
+
+against-damage: $(AGAINST_PROGRAM) $(REPORT)
 	cd tests && $(AGAINST) target/release/against fuzz seconds 60
 
 # The benchmark. The peers are compiled for the processor that the archive is for, any x86-64.

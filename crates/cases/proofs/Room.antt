@@ -7,12 +7,10 @@
 --
 -- Assumes nothing.
 use mathlib.Core.Path.{_≡_, refl, ap, _∙_}
-use mathlib.Core.Bool.{true, false}
-use mathlib.Core.Logic.{inl, inr}
 use mathlib.Core.List.{List}
 use Prim.Native.Nat.{ℕ, suc, _≤_}
 use native.Mathlib.Omega.{arith}
-use lib.ListN.{length, take, drop, length-append}
+use lib.ListN.{length, take}
 use lib.Seq.{length-take-le}
 use Rattle.rules.specs.Numbers.{samples, point, planOf, mostSamples}
 use Rattle.rules.specs.Plans.{samples-most}
@@ -20,10 +18,8 @@ use Rattle.rules.specs.Sketches.{value, sketchOf, blank}
 use Rattle.rules.specs.Formed.{slots-length}
 use Rattle.rules.specs.Messages.{messageLength}
 use Rattle.rules.specs.Refusals.{given}
-use Rattle.rules.specs.Calls.{sketchAnswer, sketchResult, writeAnswer, writeLength, reconcileTests}
-use Rattle.rules.specs.Reconciling.{Left, Refuses, Finds, After, Reconciles}
+use Rattle.rules.specs.Calls.{sketchAnswer, sketchResult, writeAnswer, writeLength}
 use Rattle.rules.specs.declared.Sketch.{Sketch}
-use Rattle.rules.specs.declared.Refusal.{Refusal}
 use Rattle.rules.specs.declared.Answer.{Answer}
 use Rattle.rules.specs.declared.Answer.the-variants.{Done, Refused}
 

@@ -16,7 +16,7 @@ use Rattle.rules.specs.Sketches.{WellFormed}
 use Rattle.rules.specs.Differences.{Difference}
 use Rattle.rules.specs.Calls.{reconcileTests}
 use Rattle.rules.specs.Tests.{refused-not-done}
-use Rattle.rules.specs.Reconciling.{DifferenceOf, None, Left, Finds, After, Reconciles}
+use Rattle.rules.specs.Reconciling.{None, Left, Finds, After, Reconciles}
 use Rattle.rules.specs.declared.Sketch.{Sketch}
 use Rattle.rules.specs.declared.Refusal.the-variants.{NoDifference}
 use Rattle.rules.specs.declared.Answer.{Answer}

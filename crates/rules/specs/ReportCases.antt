@@ -10,7 +10,7 @@ use mathlib.Core.List.{List, [], _∷_}
 use Prim.Native.Nat.{ℕ}
 use lib.ListN.{replicate}
 use Rattle.rules.specs.Refusals.{numberOf, placeOf}
-use Rattle.rules.specs.Report.{text, newline, good, bad, limited, firstLine, secondLine, Form, tooLong, badLine, whole, formOf, decimal, refusedText, badLineText, countsText, listText, foundText, Reports}
+use Rattle.rules.specs.Report.{text, newline, good, bad, limited, firstLine, secondLine, tooLong, badLine, whole, formOf, decimal, refusedText, badLineText, countsText, listText, foundText, Reports}
 use Rattle.rules.specs.Calls.{readAnswer}
 use Rattle.rules.specs.declared.Refusal.the-variants.{UnorderedKey, NoDifference}
 use Rattle.rules.specs.declared.Answer.the-variants.{Refused}

@@ -9,7 +9,7 @@
 --   gives, changes         what comes with an answer; where it is accepted, the sketch after the change
 --
 -- Assumes nothing.
-use mathlib.Core.Path.{_≡_, refl, sym, ap, _∙_}
+use mathlib.Core.Path.{_≡_, refl, sym, _∙_}
 use mathlib.Core.Bool.{true, false, not}
 use mathlib.Core.Logic.{⊎-elim}
 use Prim.Native.Nat.{ℕ, _≤_, _<_}

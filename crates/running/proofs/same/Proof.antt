@@ -5,7 +5,6 @@ use Prim.Native.Nat.{ℕ, _-_, _≤_, _<_}
 use native.Mathlib.Omega.{arith}
 use borrow.Author.Needs.{needs}
 use lib.ListN.{getD}
-use mathlib.Core.Bool.{true, false}
 use borrow.Author.Count.{below-more}
 use Rattle.algebra.specs.Decided.{false-not-true}
 use Rattle.rules.specs.Numbers.{mostSamples}
