@@ -2,7 +2,7 @@
 #
 #   make                   target/staticlib/libvlomdar.a (proves the library first) and build/exchange
 #   make check             header as C and C++, example against its expected output, entries against document 01, an installation
-#   make against           a second implementation against the archive and the night report (tests/README.md), under valgrind, and a minute of damaged inputs
+#   make against           a second implementation against the archive and the night report (tests/README.md), under valgrind, and on damaged inputs
 #   make bench             times beside plain C++, NTL and FLINT, and a picture of them (docs/PERFORMANCE.md; fails only on a wrong answer)
 #   make figures           the same, and this run's results put into bench/results.csv, docs/performance.svg and the tables of the page
 #   make install PREFIX=.. header, archive, vlomdar.pc, the program night_report and man pages; DESTDIR is put before PREFIX
@@ -94,7 +94,7 @@ against-memory: $(AGAINST_PROGRAM) $(REPORT)
 	cd tests && $(AGAINST) valgrind --quiet --error-exitcode=9 target/release/against short
 
 against-damage: $(AGAINST_PROGRAM) $(REPORT)
-	cd tests && $(AGAINST) target/release/against fuzz seconds 60
+	cd tests && $(AGAINST) target/release/against fuzz seconds 20
 
 # The benchmark. The peers are compiled for the processor that the archive is for, any x86-64.
 BENCH = build/bench/bench
