@@ -52,8 +52,8 @@ fn print_bytes(bytes: &[u8]) -> usize
 fn print_refusal(answer: Answer) -> u32
     ensures { λ r. ⌜ r ≡ numberOf answer ⌝ }
 {
-    let number = rules::number(answer);
-    let place = rules::place(answer);
+    let number = refusal::number(answer);
+    let place = refusal::place(answer);
     io::write_all(STDOUT_FILENO, b" refused ");
     io::print_decimal(STDOUT_FILENO, number as u64);
     io::write_all(STDOUT_FILENO, b" at ");
@@ -298,7 +298,7 @@ fn agreement(plan: u32, dome: &[u32], home: &[u32]) -> u32
     let answer = told.answer;
     let t = told.theirs;
     let o = told.ours;
-    if rules::number(answer) != 0 {
+    if refusal::number(answer) != 0 {
         return 0;
     }
     if !same(&theirs[..t], &new[..n]) {

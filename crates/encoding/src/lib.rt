@@ -95,7 +95,7 @@ pub fn pack(answer: Answer, first: usize, second: usize) -> u64
     requires { ⌜ (placeOf answer < 2 ^ 24) × (first < 2 ^ 16) × (second < 2 ^ 16) ⌝ }
     ensures { λ r. ⌜ r ≡ packed (numberOf answer) (placeOf answer) first second ⌝ }
 {
-    let number = rules::number(answer) as u64;
-    let place = rules::place(answer) as u64;
+    let number = refusal::number(answer) as u64;
+    let place = refusal::place(answer) as u64;
     number + 0x100 * place + 0x1_0000_0000 * (first as u64) + 0x1_0000_0000_0000 * (second as u64)
 }

@@ -16,7 +16,7 @@ use lib.Seq.{take-at}
 use Rattle.algebra.specs.Tabulate.{tabulate}
 use Rattle.rules.specs.Refusals.{numberOf, placeOf, numberOfRefusal, placeOfRefusal}
 use Rattle.rules.specs.Cases.{sketch-2, difference-7}
-use Rattle.rules.specs.CallCases.{message-7, read-7, sketch-7}
+use Rattle.computed.specs.CallCases.{message-7, read-7, sketch-7}
 use Rattle.rules.specs.Calls.{readResult, reconcileTests}
 use Rattle.rules.specs.Reconciling.{DifferenceOf, Left, Refuses, Finds, After, Reconciles}
 use Rattle.rules.specs.Entries.{keyBytes, keysOf, bytesOf, packed, frontBytes, sketchReturns, sketchLeaves, reconcileEntryTests, EntryLeft, ReconcilesKeys, EntryAfter, EntryReconciles}

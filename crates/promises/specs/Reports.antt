@@ -16,8 +16,8 @@ use Rattle.rules.specs.Calls.{readAnswer, readResult}
 use Rattle.rules.specs.Reconciling.{Left}
 use Rattle.rules.specs.Report.{text, Form, tooLong, badLine, whole, formOf, answered, room, Reconciled, AfterRead, Says, Reports}
 use Rattle.rules.specs.Cases.{sketch-2, difference-7}
-use Rattle.rules.specs.CallCases.{message-7, read-7, sketch-7}
-use Rattle.rules.specs.ReportCases.{example, example-form, example-text}
+use Rattle.computed.specs.CallCases.{message-7, read-7, sketch-7}
+use Rattle.computed.specs.ReportCases.{example, example-form, example-text}
 use Rattle.rules.specs.declared.Sketch.{Sketch}
 use Rattle.rules.specs.declared.Answer.{Answer}
 use Rattle.rules.specs.declared.Answer.the-variants.{Done, Refused}

@@ -108,8 +108,8 @@ pub fn put_refused(out: &mut [u8], answer: Answer) -> usize
     requires { ⌜ textRoom ≤ length (now out) ⌝ }
     ensures { λ r. ⌜ Puts (now (out .entry)) 0 (refusedText (numberOf answer) (placeOf answer)) (now (out .exit)) r × (r ≤ textRoom) ⌝ }
 {
-    let number = rules::number(answer);
-    let place = rules::place(answer);
+    let number = refusal::number(answer);
+    let place = refusal::place(answer);
     let mut next = put_text(out, 0, b"refused ");
     next = put_number(out, next, number);
     next = put_text(out, next, b" at ");

@@ -13,7 +13,7 @@ ghost use Rattle.rules.specs.Calls.{sketchResult, addResult, removeResult};
 ghost use Rattle.running.specs.Same.{Same};
 
 // Key j of the 64 that go in and out lies at j times this, so that the keys reach from 0 to near the largest.
-const SPREAD: u32 = 1039;
+const SPREAD: u32 = rules::KEY_LIMIT / 63;
 
 const UPDATES: u32 = 400;
 
@@ -48,7 +48,7 @@ fn same(a: Sketched, b: Sketched) -> bool
 {
     let p = a.answer;
     let q = b.answer;
-    if rules::number(p) != rules::number(q) {
+    if refusal::number(p) != refusal::number(q) {
         return false;
     }
     let x = a.sketch;
