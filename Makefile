@@ -84,7 +84,7 @@ $(AGAINST_PROGRAM): $(ARCHIVE) $(shell find tests/second tests/against -name '*.
 	cd tests && VLOMDAR_LIB=$(CURDIR)/target/staticlib cargo build --offline --quiet --release -p against
 	touch $@
 
-against-itself: | $(AGAINST_PROGRAM)
+against-itself:
 	cd tests && cargo test --offline --quiet -p second
 
 against-calls: $(AGAINST_PROGRAM) $(REPORT)
