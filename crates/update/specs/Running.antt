@@ -22,7 +22,7 @@ use Rattle.rules.specs.Sketches.{sketchOf, WellFormed, value}
 use Rattle.rules.specs.Calls.{addResult, removeResult}
 use Rattle.rules.specs.declared.Sketch.{Sketch}
 use Rattle.rules.specs.Filled.{slot-low, slot-high, slots-ext, slots-same}
-use Rattle.sketch.specs.Values.{valuesOf}
+use Rattle.sketch.specs.Values.{valuesOf, kept}
 use Rattle.sketch.specs.Formed.{sketch-formed}
 use Rattle.update.specs.Changes.{factorOf, multiplied, MayChange, sizeAfter, changedBy}
 use Rattle.update.specs.Updates.{updateResult, Accepted, changes}
@@ -54,9 +54,6 @@ undone m f g l count below undo =
     high : (i : ℕ) → m ≤ i → i < mostSamples → getD (multiplied m f l) i 0 ≡ getD l i 0
     high i h b = slot-high m (λ j. mulOf modulus (getD l j 0) (f j)) (λ j. getD l j 0) i h b
 
-abbrev resized : Sketch → ℕ → List ℕ → Sketch
-resized s size l = record { plan = s .plan; size = size; values = l }
-
 -- the change that undoes a change: its factors, its size, and that it is accepted
 abbrev undoing : Change → Change
 undoing Add = Remove
@@ -76,7 +73,7 @@ may-undo Remove size b h = omega arith
 
 changed-back : (change : Change) (s : Sketch) (k : ℕ) → Accepted change s k → changedBy (undoing change) (changedBy change s k) k ≡ s
 changed-back change s k a =
-    ap₂ (resized s) (size-back change (s .size) (a .size))
+    ap₂ (kept (s .plan)) (size-back change (s .size) (a .size))
     (undone (samples (s .plan)) (factorOf change k) (factorOf (undoing change) k) (s .values) (a .sketch .count) (a .sketch .high) (λ i b. factors-cancel change k i (a .key) b))
 
 pub update-undone : (change : Change) (s : Sketch) (k : ℕ) → Accepted change s k → updateResult (undoing change) (updateResult change s k) k ≡ s
@@ -96,9 +93,6 @@ values-snoc m ks k =
     slots-ext m (λ i. mulOf modulus (getD (valuesOf m ks) i 0) (subOf modulus (point (suc i)) k)) (λ i. value (ks ++ k ∷ []) (point (suc i))) (λ i. getD (valuesOf m ks) i 0) (λ _. 0)
     (λ i l h. ap (λ (v : ℕ). mulOf modulus v (subOf modulus (point (suc i)) k)) (slot-low m (λ j. value ks (point (suc j))) (λ _. 0) i l h) ∙ sym (productOf-snoc modulus ks k (point (suc i))))
     (λ i l h. slot-high m (λ j. value ks (point (suc j))) (λ _. 0) i l h)
-
-abbrev kept : ℕ → ℕ → List ℕ → Sketch
-kept plan size l = record { plan = plan; size = size; values = l }
 
 pub add-one-more : (plan : ℕ) (ks : List ℕ) (k : ℕ) → plan < plans → ((j : ℕ) → j ∈ ks → LegalKey j) → LegalKey k → length ks < listLimit → addResult (sketchOf plan ks) k ≡ sketchOf plan (ks ++ k ∷ [])
 add-one-more plan ks k p legal l h =
