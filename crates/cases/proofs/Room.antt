@@ -3,15 +3,13 @@
 --   longest            room for the longest message
 --   written-fits       no message is longer
 --   sketch-sized       a sketch that a list gave has its 64 values
---   part-length        the first n keys of a list are within a bound where n is
 --
 -- Assumes nothing.
 use mathlib.Core.Path.{_≡_, refl, ap, _∙_}
 use mathlib.Core.List.{List}
 use Prim.Native.Nat.{ℕ, suc, _≤_}
 use native.Mathlib.Omega.{arith}
-use lib.ListN.{length, take}
-use lib.Seq.{length-take-le}
+use lib.ListN.{length}
 use Rattle.rules.specs.Numbers.{samples, point, planOf, mostSamples}
 use Rattle.rules.specs.Plans.{samples-most}
 use Rattle.rules.specs.Sketches.{value, sketchOf, blank}
@@ -43,6 +41,3 @@ given-sized (Refused r) plan keys = refl
 
 pub sketch-sized : (plan : ℕ) (keys : List ℕ) (s : Sketch) → s ≡ sketchResult plan keys → length (s .values) ≡ mostSamples
 sketch-sized plan keys s e = ap (λ (s : Sketch). length (s .values)) e ∙ given-sized (sketchAnswer plan keys) (planOf plan) keys
-
-pub part-length : (n most : ℕ) (l : List ℕ) → n ≤ length l → n ≤ most → length (take n l) ≤ most
-part-length n most l h few = let e = length-take-le n l h in omega arith

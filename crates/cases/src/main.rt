@@ -1,5 +1,4 @@
 // The cases of document 01, "Values to hold against it", run through the calls: sketch, write, read, reconcile. A line for each says what came back.
-// Then random pairs of sets, whose differences are found a second time by merging the two lists: the last line says how often the two agree.
 use libc::STDOUT_FILENO;
 use rules::Answer;
 use rules::Sketch;
@@ -14,13 +13,8 @@ ghost use Rattle.rules.specs.Calls.{sketchAnswer, sketchResult, writeLength, wr
 // Room for the longest message, that of 64 values.
 const ROOM: usize = 139;
 
-// The most keys of a set in a random pair.
-const KEYS: usize = 64;
-
-// Key j of a random pair lies in the j-th part of this many.
-const PART: u32 = 1000;
-
-const PAIRS: u32 = 128;
+// Room for a difference of 64 samples.
+const KEYS: usize = rules::MOST_SAMPLES;
 
 // Each key after a space; answers how many.
 fn print_keys(keys: &[u32]) -> usize
@@ -155,194 +149,6 @@ fn two_values(size: u32, v: u32, w: u32) -> Sketch
     }
 }
 
-// The next number of a small fixed generator.
-fn next(x: u32) -> u32
-    requires { ⌜ x < 65536 ⌝ }
-    ensures { λ r. ⌜ r < 65536 ⌝ }
-{
-    (x * 25173 + 13849) % 65536
-}
-
-// A key that is wanted stands behind the first n of a list; answers how many stand there then.
-fn put(list: &mut [u32], n: usize, key: u32, wanted: bool) -> usize
-    requires { ⌜ n < length (now list) ⌝ }
-    ensures { λ r. ⌜ (n ≤ r) × (r ≤ n + 1) ⌝ }
-{
-    if wanted {
-        list[n] = key;
-        return n + 1;
-    }
-    n
-}
-
-// Whether one side has a key: either both have it, or the side that is picked.
-fn has(differs: bool, picked: bool) -> bool
-    ensures { λ r. ⌜ r ≡ (not differs || picked) ⌝ }
-{
-    if differs { picked } else { true }
-}
-
-// How many keys of each set were drawn.
-struct Drawn {
-    dome: usize,
-    home: usize,
-}
-
-// Two sets, drawn from so many numbers by a seed. At most `most` keys are in one of them alone: about `often` of eight, and of these `lean` of four
-// at the dome.
-fn draw(
-    seed: u32,
-    count: usize,
-    most: usize,
-    often: u32,
-    lean: u32,
-    dome: &mut [u32],
-    home: &mut [u32],
-) -> Drawn
-    requires { ⌜ (seed < 65536) × (count ≤ 64) × (length (now dome) ≡ 64) × (length (now home) ≡ 64) ⌝ }
-    ensures { λ r. ⌜ (r .dome ≤ 64) × (r .home ≤ 64) ⌝ }
-{
-    let mut x = seed;
-    let mut a = 0;
-    let mut b = 0;
-    let mut j = 0;
-    while j < count {
-        x = next(x);
-        let key = j as u32 * PART + x % PART;
-        let apart = 2 * j - a - b;
-        let differs = if apart < most {
-            x / 8192 < often
-        } else {
-            false
-        };
-        let at_dome = x / 1024 % 4 < lean;
-        a = put(dome, a, key, has(differs, at_dome));
-        b = put(home, b, key, has(differs, !at_dome));
-        j += 1;
-    }
-    Drawn { dome: a, home: b }
-}
-
-// The first index from `start` on where an ascending list has no smaller number than a key.
-fn reach(list: &[u32], start: usize, key: u32) -> usize
-    ensures { λ r. ⌜ start ≤ r ⌝ }
-{
-    let mut i = start;
-    while i < list.len() {
-        if key <= list[i] {
-            return i;
-        }
-        i += 1;
-    }
-    i
-}
-
-// Whether a key stands at an index of a list.
-fn stands(list: &[u32], i: usize, key: u32) -> bool
-    ensures { λ r. ⌜ (r ≡ true → i < length (now (list .entry))) ⌝ }
-{
-    if i < list.len() {
-        list[i] == key
-    } else {
-        false
-    }
-}
-
-// The numbers of an ascending list that another lacks, by walking along both; answers how many.
-fn lacking(list: &[u32], other: &[u32], out: &mut [u32]) -> usize
-    requires { ⌜ length (now list) ≤ length (now out) ⌝ }
-    ensures { λ r. ⌜ r ≤ length (now (list .entry)) ⌝ }
-{
-    let mut n = 0;
-    let mut j = 0;
-    let mut i = 0;
-    while i < list.len() {
-        let key = list[i];
-        j = reach(other, j, key);
-        n = put(out, n, key, !stands(other, j, key));
-        i += 1;
-    }
-    n
-}
-
-// Whether two lists are the same.
-fn same(a: &[u32], b: &[u32]) -> bool
-    ensures { λ r. ⌜ (r ≡ true → length (now (a .entry)) ≡ length (now (b .entry))) ⌝ }
-{
-    if a.len() != b.len() {
-        return false;
-    }
-    let mut i = 0;
-    while i < a.len() {
-        if a[i] != b[i] {
-            return false;
-        }
-        i += 1;
-    }
-    true
-}
-
-// 1 where home is told just what the two lists lack of each other, else 0.
-fn agreement(plan: u32, dome: &[u32], home: &[u32]) -> u32
-    requires { ⌜ (length (now dome) ≤ 64) × (length (now home) ≤ 64) ⌝ }
-    ensures { λ r. ⌜ r ≤ 1 ⌝ }
-{
-    let made = sketch::sketch(plan, dome);
-    let mut theirs = [0u32; KEYS];
-    let mut ours = [0u32; KEYS];
-    let told = reconcile::reconcile(sent(made.sketch), home, &mut theirs, &mut ours);
-    let mut new = [0u32; KEYS];
-    let mut held = [0u32; KEYS];
-    let n = lacking(dome, home, &mut new);
-    let h = lacking(home, dome, &mut held);
-    let answer = told.answer;
-    let t = told.theirs;
-    let o = told.ours;
-    if refusal::number(answer) != 0 {
-        return 0;
-    }
-    if !same(&theirs[..t], &new[..n]) {
-        return 0;
-    }
-    if same(&ours[..o], &held[..h]) { 1 } else { 0 }
-}
-
-// One random pair under a plan. The round says how many numbers are drawn from, how often the sets differ, and on which side.
-fn pair(plan: u32, round: u32, seed: u32) -> u32
-    requires { ⌜ (plan < 16) × (round < 8) × (seed < 65536) ⌝ }
-    ensures { λ r. ⌜ r ≤ 1 ⌝ }
-{
-    let most = plan::samples(plan as u8);
-    let mut dome = [0u32; KEYS];
-    let mut home = [0u32; KEYS];
-    let count = 8 * (round as usize + 1);
-    let drawn = draw(
-        seed,
-        count,
-        most,
-        round + 1,
-        round % 5,
-        &mut dome,
-        &mut home,
-    );
-    let a = drawn.dome;
-    let b = drawn.home;
-    agreement(plan, &dome[..a], &home[..b])
-}
-
-// Eight rounds under each plan; answers how often there was agreement.
-fn pairs() -> u32
-    ensures { λ r. ⌜ r ≤ 128 ⌝ }
-{
-    let mut agreed = 0;
-    let mut i = 0;
-    while i < PAIRS {
-        agreed += pair(i / 8, i % 8, i * 509);
-        i += 1;
-    }
-    agreed
-}
-
 // Cases 1 to 6; answers how many lines.
 fn sketches() -> u32
     ensures { λ r. ⌜ r ≡ 9 ⌝ }
@@ -392,9 +198,4 @@ fn reconcilings() -> u32
 fn main() {
     sketches();
     reconcilings();
-    let agreed = pairs();
-    io::print_decimal(STDOUT_FILENO, PAIRS as u64);
-    io::write_all(STDOUT_FILENO, b" pairs, ");
-    io::print_decimal(STDOUT_FILENO, agreed as u64);
-    io::write_all(STDOUT_FILENO, b" agreements\n");
 }

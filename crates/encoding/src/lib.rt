@@ -2,7 +2,7 @@
 use rules::Answer;
 ghost use mathlib.Core.Path.{_≡_};
 ghost use mathlib.Core.List.{_++_};
-ghost use Prim.Native.Nat.{suc, _+_, _*_, _<_, _≤_, _^_, min};
+ghost use Prim.Native.Nat.{suc, _+_, _*_, _<_, _≤_, _^_};
 ghost use lib.ListN.{length, drop};
 ghost use Rattle.rules.specs.Numbers.{listLimit};
 ghost use Rattle.rules.specs.Refusals.{numberOf, placeOf};
@@ -37,12 +37,6 @@ fn byte_of(key: u32, i: usize) -> u8
     ((key >> (8 * i)) % 0x100) as u8
 }
 
-pub fn lesser(a: usize, b: usize) -> usize
-    ensures { λ r. ⌜ r ≡ min a b ⌝ }
-{
-    if a < b { a } else { b }
-}
-
 // How many keys were taken out of a buffer, and whether each is above the one before it.
 pub struct Intake {
     pub count: usize,
@@ -55,7 +49,7 @@ pub fn keys_in(bytes: &[u8], keys: &mut [u32]) -> Intake
     requires { ⌜ length (now keys) ≤ suc listLimit ⌝ }
     ensures { λ r. ⌜ Taken (now (bytes .entry)) (now (keys .entry)) (now (keys .exit)) (r .count) (r .ascending) ⌝ }
 {
-    let count = lesser(bytes.len() / KEY_BYTES, keys.len());
+    let count = area::lesser(bytes.len() / KEY_BYTES, keys.len());
     if count == 0 {
         return Intake {
             count,

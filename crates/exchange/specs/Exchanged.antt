@@ -3,17 +3,21 @@
 --   left r theirs ours     what a call leaves, from its result and its two buffers
 --   Exchanges              the relation
 --   exchange-one           of one outcome, since reconcile has one
+--   exchange-stands        no more keys are counted than stand in the buffers afterwards
 --
 -- Assumes nothing.
 use mathlib.Core.Path.{_≡_}
 use mathlib.Core.List.{List}
-use Prim.Native.Nat.{ℕ}
+use Prim.Native.Nat.{ℕ, _≤_}
+use native.Mathlib.Omega.{arith}
+use lib.ListN.{length}
 use Rattle.rules.specs.Numbers.{planOf}
 use Rattle.rules.specs.Sketches.{sketchOf}
 use Rattle.rules.specs.Calls.{sketchAnswer}
 use Rattle.rules.specs.Reconciling.{Left, Refuses, Reconciles}
 use Rattle.rules.specs.declared.Answer.{Answer}
 use Rattle.rules.specs.declared.Answer.the-variants.{Done, Refused}
+use Rattle.reconcile.specs.Bounds.{bounds}
 use Rattle.reconcile.specs.declared.Reconciled.{Reconciled}
 use Rattle.promises.specs.Unique.{refuses-one, reconcile-one}
 
@@ -34,3 +38,16 @@ exchange-one request dome home theirs ours a b = go (sketchAnswer request dome)
     go : (t : Answer) → Sent t (planOf request) dome home theirs ours a → Sent t (planOf request) dome home theirs ours b → a ≡ b
     go (Refused r) x y = refuses-one r theirs ours a b x y
     go Done x y = reconcile-one (sketchOf (planOf request) dome) home theirs ours a b x y
+
+pub exchange-stands : (request : ℕ) (dome home theirs ours : List ℕ) (l : Left) → Exchanges request dome home theirs ours l → (l .theirs-count ≤ length (l .theirs)) × (l .ours-count ≤ length (l .ours))
+unfolding Exchanges
+exchange-stands request dome home theirs ours l = go (sketchAnswer request dome)
+  where
+    go : (t : Answer) → Sent t (planOf request) dome home theirs ours l → (l .theirs-count ≤ length (l .theirs)) × (l .ours-count ≤ length (l .ours))
+    go (Refused r) x =
+        let t = x .theirs-none in
+        let o = x .ours-none in
+        (omega arith, omega arith)
+    go Done x =
+        let b = bounds (sketchOf (planOf request) dome) home theirs ours l x in
+        (b .theirs-stand, b .ours-stand)

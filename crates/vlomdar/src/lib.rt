@@ -58,8 +58,8 @@ fn to_lists(s: Sketch, home: &[u8], theirs: &mut [u8], ours: &mut [u8]) -> u64
     let list = list::answer_told(&keys[..count], taken.ascending);
     let mut new = [0u32; rules::MOST_SAMPLES];
     let mut held = [0u32; rules::MOST_SAMPLES];
-    let theirs_room = encoding::lesser(theirs.len() / KEY_BYTES, rules::MOST_SAMPLES);
-    let ours_room = encoding::lesser(ours.len() / KEY_BYTES, rules::MOST_SAMPLES);
+    let theirs_room = area::lesser(theirs.len() / KEY_BYTES, rules::MOST_SAMPLES);
+    let ours_room = area::lesser(ours.len() / KEY_BYTES, rules::MOST_SAMPLES);
     let found = reconcile::reconcile_told(
         s,
         &keys[..count],
