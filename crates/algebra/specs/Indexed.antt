@@ -8,15 +8,14 @@
 --   last-largest           the last number of an ascending list is the largest
 --
 -- Assumes nothing.
-use mathlib.Core.Path.{_≡_, refl, sym, ap, subst, _∙_}
+use mathlib.Core.Path.{_≡_, refl, sym, subst}
 use mathlib.Core.Logic.{_⊎_, inl, inr, ⊎-elim, _↔_}
-use mathlib.Core.List.{List, [], _∷_, _++_, List·Memᴰ·head, List·Memᴰ·tail, List·Memᴰ·not-nil, List·Memᴰ·cases-cons, List·Memᴰ·append-cases, List·Memᴰ·eq-of-singleton, Memᴰ·append-left, Memᴰ·append-right}
+use mathlib.Core.List.{List, [], _∷_, List·Memᴰ·head, List·Memᴰ·tail, List·Memᴰ·not-nil, List·Memᴰ·cases-cons, List·Memᴰ·append-cases, List·Memᴰ·eq-of-singleton, Memᴰ·append-left, Memᴰ·append-right}
 use Prim.Native.Nat.{ℕ, zero, suc, _+_, _-_, _≤_, _<_}
-use native.Mathlib.Numerals.{add-one}
 use native.Mathlib.Omega.{arith}
 use native.Mathlib.Decide.{decLt}
 use lib.ListN.{length, getD, take}
-use lib.Seq.{take-suc}
+use Rattle.algebra.specs.Prefix.{take-next}
 use Rattle.algebra.specs.Sets.{_∈_, Above, Ascending}
 
 pub getD-mem : (l : List ℕ) (i : ℕ) → i < length l → getD l i 0 ∈ l
@@ -30,12 +29,9 @@ mem-at (List·Memᴰ·tail m) = let r = mem-at m in (suc (r .0), omega (arith, r
 
 pub take-more : (l : List ℕ) (i : ℕ) → i < length l → (j : ℕ) → (j ∈ take (i + 1) l) ↔ ((j ∈ take i l) ⊎ (j ≡ getD l i 0))
 take-more l i h j = (
-  λ m. ⊎-elim (λ u. inl u) (λ u. inr (List·Memᴰ·eq-of-singleton u)) (List·Memᴰ·append-cases (take i l) (subst (λ (s : List ℕ). j ∈ s) front m)),
-  λ s. subst (λ (s : List ℕ). j ∈ s) (sym front) (⊎-elim (λ u. Memᴰ·append-left (getD l i 0 ∷ []) u) (λ e. Memᴰ·append-right (take i l) (List·Memᴰ·head e)) s),
+  λ m. ⊎-elim (λ u. inl u) (λ u. inr (List·Memᴰ·eq-of-singleton u)) (List·Memᴰ·append-cases (take i l) (subst (λ (s : List ℕ). j ∈ s) (take-next l i h) m)),
+  λ s. subst (λ (s : List ℕ). j ∈ s) (sym (take-next l i h)) (⊎-elim (λ u. Memᴰ·append-left (getD l i 0 ∷ []) u) (λ e. Memᴰ·append-right (take i l) (List·Memᴰ·head e)) s),
 )
-  where
-    front : take (i + 1) l ≡ take i l ++ getD l i 0 ∷ []
-    front = ap (λ (m : ℕ). take m l) (add-one i) ∙ take-suc l i 0 h
 
 pub ascending-at : (l : List ℕ) (i j : ℕ) → Ascending l → i < j → j < length l → getD l i 0 < getD l j 0
 ascending-at [] i j a h le = absurd (omega arith)

@@ -75,9 +75,9 @@ unfolding listAnswer
 lists = refl
 
 -- 1 before 2 before a bad key
-pub sketches : map (λ request. told (sketchAnswer request (70000 ∷ []))) (15 ∷ 16 ∷ 255 ∷ 271 ∷ []) ≡ (3, 0) ∷ (1, 0) ∷ (3, 0) ∷ (1, 0) ∷ []
+pub sketches : (map (λ request. told (sketchAnswer request (70000 ∷ []))) (15 ∷ 16 ∷ 255 ∷ 271 ∷ []) ≡ (3, 0) ∷ (1, 0) ∷ (3, 0) ∷ (1, 0) ∷ []) × (told (sketchAnswer 16 (replicate 16385 0)) ≡ (1, 0))
 unfolding sketchAnswer listAnswer
-sketches = refl
+sketches = (refl, refl)
 
 pub blank-given : sketchResult 16 [] ≡ blank
 unfolding sketchAnswer
@@ -97,10 +97,10 @@ pub not-written : (writeBuffer (sketch-1 1 65536) (replicate 4 255) ≡ replicat
 unfolding wellFormed writeAnswer
 not-written = (refl, refl)
 
--- "7 if empty, 8, 7, 9, the first 10": empty; one byte of version 2, and of version 1; 300 zero bytes; case 1, and a byte more; sizes 16,384 and 16,385, the latter
+-- "7 if empty, 8, 7, 9, the first 10": empty; one byte of version 2, and of version 1; three bytes, the size too large; 300 zero bytes; case 1, and a byte more; sizes 16,384 and 16,385, the latter
 -- with the value 0; values 0, 65,536 and 65,537
-pub reads : map (λ b. told (readAnswer b)) ([] ∷ (32 ∷ []) ∷ (16 ∷ []) ∷ replicate 300 0 ∷ (16 ∷ 0 ∷ 0 ∷ 0 ∷ 1 ∷ []) ∷ (16 ∷ 0 ∷ 0 ∷ 0 ∷ 1 ∷ 0 ∷ []) ∷ (16 ∷ 128 ∷ 0 ∷ 0 ∷ 1 ∷ []) ∷ (16 ∷ 128 ∷ 2 ∷ 0 ∷ 0 ∷ []) ∷ (16 ∷ 0 ∷ 0 ∷ 0 ∷ 0 ∷ []) ∷ (16 ∷ 0 ∷ 1 ∷ 0 ∷ 0 ∷ []) ∷ (16 ∷ 0 ∷ 1 ∷ 0 ∷ 1 ∷ []) ∷ [])
-    ≡ (7, 0) ∷ (8, 0) ∷ (7, 0) ∷ (8, 0) ∷ (0, 0) ∷ (7, 0) ∷ (0, 0) ∷ (9, 0) ∷ (10, 0) ∷ (0, 0) ∷ (10, 0) ∷ []
+pub reads : map (λ b. told (readAnswer b)) ([] ∷ (32 ∷ []) ∷ (16 ∷ []) ∷ (16 ∷ 255 ∷ 255 ∷ []) ∷ replicate 300 0 ∷ (16 ∷ 0 ∷ 0 ∷ 0 ∷ 1 ∷ []) ∷ (16 ∷ 0 ∷ 0 ∷ 0 ∷ 1 ∷ 0 ∷ []) ∷ (16 ∷ 128 ∷ 0 ∷ 0 ∷ 1 ∷ []) ∷ (16 ∷ 128 ∷ 2 ∷ 0 ∷ 0 ∷ []) ∷ (16 ∷ 0 ∷ 0 ∷ 0 ∷ 0 ∷ []) ∷ (16 ∷ 0 ∷ 1 ∷ 0 ∷ 0 ∷ []) ∷ (16 ∷ 0 ∷ 1 ∷ 0 ∷ 1 ∷ []) ∷ [])
+    ≡ (7, 0) ∷ (8, 0) ∷ (7, 0) ∷ (7, 0) ∷ (8, 0) ∷ (0, 0) ∷ (7, 0) ∷ (0, 0) ∷ (9, 0) ∷ (10, 0) ∷ (0, 0) ∷ (10, 0) ∷ []
 unfolding readAnswer fieldAt
 reads = refl
 
@@ -158,8 +158,8 @@ unfolding wellFormed removeAnswer
 empty-stays = refl
 
 -- "6, 2, keys as above, 5 (theirs first, then ours; each needs m entries), 12": room for theirs, then for ours; a gap of 2, of 1 and of −2
-pub reconciles : told (reconcileTests blank (70000 ∷ []) 0 0) ∷ told (reconcileTests (sketch-1 2 6) (5 ∷ 4 ∷ []) 0 0) ∷ told (reconcileTests (sketch-1 2 6) [] 0 0) ∷ told (reconcileTests (sketch-1 2 6) [] 1 0) ∷ map (λ home. told (reconcileTests (sketch-1 2 6) home 1 1)) ([] ∷ (1 ∷ []) ∷ (1 ∷ 2 ∷ 3 ∷ 4 ∷ []) ∷ [])
-    ≡ (6, 0) ∷ (4, 1) ∷ (5, 0) ∷ (5, 1) ∷ (12, 0) ∷ (0, 0) ∷ (12, 0) ∷ []
+pub reconciles : told (reconcileTests blank (replicate 16385 0) 0 0) ∷ told (reconcileTests (sketch-1 2 6) (replicate 16385 70000) 0 0) ∷ told (reconcileTests (sketch-1 2 6) (5 ∷ 70000 ∷ []) 0 0) ∷ told (reconcileTests (sketch-1 2 6) (5 ∷ 4 ∷ []) 0 0) ∷ told (reconcileTests (sketch-1 2 6) [] 0 0) ∷ told (reconcileTests (sketch-1 2 6) [] 1 0) ∷ map (λ home. told (reconcileTests (sketch-1 2 6) home 1 1)) ([] ∷ (1 ∷ []) ∷ (1 ∷ 2 ∷ 3 ∷ 4 ∷ []) ∷ [])
+    ≡ (6, 0) ∷ (2, 0) ∷ (3, 1) ∷ (4, 1) ∷ (5, 0) ∷ (5, 1) ∷ (12, 0) ∷ (0, 0) ∷ (12, 0) ∷ []
 unfolding wellFormed listAnswer reconcileTests
 reconciles = refl
 

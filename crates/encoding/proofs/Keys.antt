@@ -10,14 +10,14 @@
 use mathlib.Core.Path.{_≡_, refl, sym, ap, ap₂, subst, _∙_}
 use mathlib.Core.Bool.{true, cond}
 use mathlib.Core.Logic.{⊎-elim}
-use mathlib.Core.List.{List, [], _∷_, _++_}
+use mathlib.Core.List.{List, _++_}
 use Prim.Native.Nat.{ℕ, _+_, _*_, _-_, _/_, _≤_, _<_, min}
 use native.Mathlib.Nat.{eq-zero-or-pos, min-eq-left, min-eq-right}
-use native.Mathlib.Numerals.{add-one}
 use native.Mathlib.Omega.{arith}
 use lib.Dec.{leb, eqb}
 use lib.ListN.{length, getD, set, take, drop, length-set}
-use lib.Seq.{take-all, take-suc, take-suc-set, length-take-le}
+use lib.Seq.{take-all, length-take-le}
+use Rattle.algebra.specs.Prefix.{agree-next}
 use Rattle.algebra.specs.Decided.{Decides}
 use Rattle.algebra.specs.Sets.{Ascending}
 use Rattle.rules.specs.Entries.{keysOf, keyAt, bytesOf}
@@ -41,9 +41,7 @@ pub record Passed (bytes : List ℕ) (room i : ℕ) (after : List ℕ) (falls : 
 module _ (bytes : List ℕ) where
   -- key i is put behind those before it
   put : (i : ℕ) (keys : List ℕ) {key : ℕ} → i < length keys → i < length bytes / 4 → key ≡ getD (keysOf bytes) i 0 → take i keys ≡ take i (keysOf bytes) → take (i + 1) (set keys i key) ≡ take (i + 1) (keysOf bytes)
-  put i keys {key} fits there e c =
-      let n = keys-length bytes in
-      ap (λ k. take k (set keys i key)) (add-one i) ∙ take-suc-set keys i key fits ∙ ap₂ (λ l k. l ++ k ∷ []) c e ∙ sym (take-suc (keysOf bytes) i 0 (omega arith)) ∙ ap (λ k. take k (keysOf bytes)) (sym (add-one i))
+  put i keys {key} fits there e c = agree-next keys (keysOf bytes) i key fits (let n = keys-length bytes in omega arith) c e
 
   pub passed-first : (keys : List ℕ) {key : ℕ} → 0 < length keys → 0 < length bytes / 4 → key ≡ keyAt bytes 0 → Passed bytes (length (set keys 0 key)) 1 (set keys 0 key) 0
   passed-first keys fits there e = record { long = refl; copied = put 0 keys fits there (e ∙ sym (keys-at bytes 0 there)) refl; rises = rises-none (keysOf bytes) }

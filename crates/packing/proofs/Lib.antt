@@ -1,3 +1,2 @@
--- A number gathered bit by bit: Gathered. A list that is written from its first element on: Filled.
+-- A number gathered bit by bit: Gathered.
 pub mod Gathered
-pub mod Filled

@@ -1,5 +1,6 @@
 // Random pairs of sets through `exchange`, whose differences are found a second time by merging the two lists: the line that is printed says how often the two agree.
 use libc::STDOUT_FILENO;
+use reconcile::Reconciled;
 use rules::Answer;
 ghost use mathlib.Core.Path.{_≡_};
 ghost use mathlib.Core.Bool.{true, not, _||_};
@@ -136,7 +137,7 @@ fn agreement(plan: u32, dome: &[u32], home: &[u32]) -> u32
 {
     let mut theirs = [0u32; KEYS];
     let mut ours = [0u32; KEYS];
-    let told = exchange::exchange(plan, dome, home, &mut theirs, &mut ours);
+    let told: Reconciled = exchange::exchange(plan, dome, home, &mut theirs, &mut ours);
     let mut new = [0u32; KEYS];
     let mut held = [0u32; KEYS];
     let n = lacking(dome, home, &mut new);

@@ -15,7 +15,8 @@ use native.Mathlib.Numerals.{add-one}
 use native.Mathlib.Omega.{arith}
 use borrow.Author.Tests.{eq-eqb, ne-eqb}
 use lib.ListN.{length, getD, take, drop, set, length-set, drop-of-length-le}
-use lib.Seq.{drop-cons, take-suc-set}
+use lib.Seq.{drop-cons}
+use Rattle.algebra.specs.Prefix.{take-set-next}
 use Rattle.rules.specs.Report as report
 use Rattle.rules.specs.Report.{good, bad, newline, isHex, hexValue, bytesLine, begins, text, secondLine}
 use Rattle.report_input.specs.Lines.{Reads}
@@ -80,7 +81,7 @@ module _ (line bytes : List ℕ) (i n a : ℕ) (r : BytesRead line bytes i n) wh
                   r .so-far ∙ ap (ahead (take n bytes)) (step ∙ pick-true _ _ _ t)
                   ∙ ap (λ (x : ℕ). ahead (take n bytes) (report.first x (bytesLine (drop (i + 2) line)))) (sym e)
                   ∙ ahead-first (take n bytes) v (bytesLine (drop (i + 2) line))
-                  ∙ ap (λ (k : List ℕ). ahead k (bytesLine (drop (i + 2) line))) (sym (take-suc-set bytes n v (omega (arith, r .room, r .pairs))) ∙ ap (λ (k : ℕ). take k (set bytes n v)) (sym (add-one n)));
+                  ∙ ap (λ (k : List ℕ). ahead k (bytesLine (drop (i + 2) line))) (sym (take-set-next bytes n v (omega (arith, r .room, r .pairs))));
             }
 
 pub no-word : (input : List ℕ) → begins (text "message ") input ≡ false → secondLine input ≡ bad

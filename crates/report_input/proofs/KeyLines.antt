@@ -18,7 +18,8 @@ use native.Mathlib.Omega.{arith}
 use borrow.Author.Tests.{eq-eqb, ne-eqb, le-leb, lt-leb, ltb-true}
 use lib.Dec.{ltb, leb, eqb}
 use lib.ListN.{length, getD, take, drop, set, length-append, length-set, drop-of-length-le}
-use lib.Seq.{drop-cons, take-suc-set, length-take-le}
+use lib.Seq.{drop-cons, length-take-le}
+use Rattle.algebra.specs.Prefix.{take-set-next}
 use Rattle.rules.specs.Tests.{and-true}
 use Rattle.rules.specs.Report as report
 use Rattle.rules.specs.Report.{Line, good, bad, newline, space, digitsLimit, keysLimit, isDigit, keysFrom, keysLine, limited, begins, text, firstLine}
@@ -93,7 +94,7 @@ module _ (line keys : List ℕ) (i n digits key b : ℕ) (r : KeysRead line keys
           stored : keysFrom 0 0 line ≡ ahead (take (n + 1) (set keys n key)) (report.behind b rest (keysFrom 0 0 rest))
           stored =
               key-ends ∙ ahead-first (take n keys) key (report.behind b rest (keysFrom 0 0 rest))
-              ∙ ap (λ (l : List ℕ). ahead l (report.behind b rest (keysFrom 0 0 rest))) (sym (take-suc-set keys n key (omega (arith, r .room))) ∙ ap (λ (k : ℕ). take k (set keys n key)) (sym (add-one n)))
+              ∙ ap (λ (l : List ℕ). ahead l (report.behind b rest (keysFrom 0 0 rest))) (sym (take-set-next keys n key (omega (arith, r .room))))
 
           pub stored-newline : b ≡ newline → Reads (limited (keysFrom 0 0 line)) line (set keys n key) true (n + 1) (i + 1)
           stored-newline e =

@@ -11,10 +11,10 @@ use mathlib.Core.Path.{_≡_, refl, sym, ap, subst, _∙_}
 use mathlib.Core.List.{List, [], _∷_, _++_, append-assoc, append-nil}
 use Prim.Native.Nat.{ℕ, suc, _+_, _≤_, _<_}
 use native.Mathlib.Nat.{add-zero, add-suc, suc-add}
-use native.Mathlib.Numerals.{add-one}
 use native.Mathlib.Omega.{arith}
 use lib.ListN.{length, getD, take, set, length-append}
-use lib.Seq.{sets, length-sets, take-suc, take-all}
+use lib.Seq.{sets, length-sets, take-all}
+use Rattle.algebra.specs.Prefix.{take-next}
 use Rattle.rules.specs.Report.{text, decimal, keysText}
 use Rattle.report_text.specs.Puts.{Puts}
 
@@ -41,9 +41,8 @@ as-long {a} {b} {t} {at} {e} p = ap length (p .written) ∙ length-sets a at t
 pub first-bytes : (l out t : List ℕ) (at i : ℕ) → i < length t → Puts l at (take i t) out (at + i) → Puts l at (take (i + 1) t) (set out (at + i) (getD t i 0)) (at + (i + 1))
 first-bytes l out t at i h p =
     let e : at + i + 1 ≡ at + (i + 1) = omega arith in
-    let more : take i t ++ (getD t i 0 ∷ []) ≡ take (i + 1) t = sym (take-suc t i 0 h) ∙ ap (λ (k : ℕ). take k t) (sym (add-one i)) in
     subst (λ (k : ℕ). Puts l at (take (i + 1) t) (set out (at + i) (getD t i 0)) k) e
-    (subst (λ (x : List ℕ). Puts l at x (set out (at + i) (getD t i 0)) (at + i + 1)) more (join p (one out (at + i) (getD t i 0))))
+    (subst (λ (x : List ℕ). Puts l at x (set out (at + i) (getD t i 0)) (at + i + 1)) (sym (take-next t i h)) (join p (one out (at + i) (getD t i 0))))
 
 pub all-of : (l out t : List ℕ) (at i : ℕ) → length t ≤ i → Puts l at (take i t) out (at + i) → Puts l at t out (at + i)
 all-of l out t at i h p = subst (λ (x : List ℕ). Puts l at x out (at + i)) (take-all i t h) p
@@ -55,5 +54,5 @@ keys-append (k ∷ a) b = ap (λ (l : List ℕ). text " " ++ decimal k ++ l) (ke
 
 pub next-key : (keys : List ℕ) (i : ℕ) → i < length keys → keysText (take (i + 1) keys) ≡ keysText (take i keys) ++ (text " " ++ decimal (getD keys i 0))
 next-key keys i h =
-    ap keysText (ap (λ (k : ℕ). take k keys) (add-one i) ∙ take-suc keys i 0 h) ∙ keys-append (take i keys) (getD keys i 0 ∷ [])
+    ap keysText (take-next keys i h) ∙ keys-append (take i keys) (getD keys i 0 ∷ [])
     ∙ ap (λ (l : List ℕ). keysText (take i keys) ++ (text " " ++ l)) (append-nil (decimal (getD keys i 0)))

@@ -4,13 +4,13 @@
 --   update-undone          the other change undoes it: remove-added, add-removed
 --   values-snoc            the values of a set with one key more
 --   add-one-more           adding a key to a sketch of keys gives the sketch of the keys and that one
---   remove-last            removing it gives the sketch back
+--   remove-last            removing it gives the sketch back; remove-any: so does removing any key of a sketch, wherever it stands among them
 --   addAll, add-all        adding the keys of a legal list, one by one, gives its sketch
 --
 -- Assumes nothing.
 use mathlib.Core.Path.{_≡_, refl, sym, ap, ap₂, _∙_}
 use mathlib.Core.Logic.{⊎-elim}
-use mathlib.Core.List.{List, [], _∷_, _++_, append-assoc, append-nil, List·Memᴰ·head, List·Memᴰ·tail, List·Memᴰ·not-nil, List·Memᴰ·append-cases, List·Memᴰ·eq-of-singleton}
+use mathlib.Core.List.{List, [], _∷_, _++_, append-assoc, append-nil, List·Memᴰ·head, List·Memᴰ·tail, List·Memᴰ·not-nil, List·Memᴰ·append-cases, List·Memᴰ·eq-of-singleton, List·Permᴰ}
 use Prim.Native.Nat.{ℕ, suc, _+_, _-_, _%_, _≤_, _<_}
 use native.Mathlib.Nat.{mod-eq-of-lt, mul-one}
 use native.Mathlib.Omega.{arith}
@@ -22,7 +22,7 @@ use Rattle.rules.specs.Sketches.{sketchOf, WellFormed, value}
 use Rattle.rules.specs.Calls.{addResult, removeResult}
 use Rattle.rules.specs.declared.Sketch.{Sketch}
 use Rattle.rules.specs.Filled.{slot-low, slot-high, slots-ext, slots-same}
-use Rattle.sketch.specs.Values.{valuesOf, kept}
+use Rattle.sketch.specs.Values.{valuesOf, kept, sketch-perm}
 use Rattle.sketch.specs.Formed.{sketch-formed}
 use Rattle.update.specs.Changes.{factorOf, multiplied, MayChange, sizeAfter, changedBy}
 use Rattle.update.specs.Updates.{updateResult, Accepted, changes}
@@ -103,6 +103,9 @@ pub remove-last : (plan : ℕ) (ks : List ℕ) (k : ℕ) → plan < plans → ((
 remove-last plan ks k p legal l h =
     ap (λ (t : Sketch). removeResult t k) (sym (add-one-more plan ks k p legal l h))
     ∙ remove-added (sketchOf plan ks) k (sketch-formed plan ks p legal (omega arith)) l h
+
+pub remove-any : (plan : ℕ) {ks rest : List ℕ} (k : ℕ) → List·Permᴰ ks (rest ++ k ∷ []) → plan < plans → ((j : ℕ) → j ∈ rest → LegalKey j) → LegalKey k → length rest < listLimit → removeResult (sketchOf plan ks) k ≡ sketchOf plan rest
+remove-any plan {rest = rest} k d p legal l h = ap (λ (t : Sketch). removeResult t k) (sketch-perm plan d) ∙ remove-last plan rest k p legal l h
 
 abbrev pub addAll : Sketch → List ℕ → Sketch
 addAll s [] = s

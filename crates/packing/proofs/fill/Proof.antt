@@ -1,4 +1,4 @@
--- `packing::fill` meets its contract. The loop's invariant: the buffer has its length, and its first j bytes are the message's (`one-more`, `filled`). The measure is what is left of the buffer.
+-- `packing::fill` meets its contract. The loop's invariant: the buffer has its length, and its first j bytes are the message's (`agree-next`, `agree-all`). The measure is what is left of the buffer.
 -- Assumes nothing.
 use mathlib.Core.Path.{_≡_, refl, sym, _∙_}
 use mathlib.Core.List.{List}
@@ -6,10 +6,10 @@ use Prim.Native.Nat.{ℕ, _-_, _≤_}
 use native.Mathlib.Omega.{arith}
 use borrow.Author.Needs.{needs}
 use lib.ListN.{length, take, length-set}
+use Rattle.algebra.specs.Prefix.{agree-next, agree-all}
 use Rattle.rules.specs.Messages.{bytes}
 use Rattle.packing.specs.Positions.{fieldBits, bytes-at}
 use Rattle.packing.specs.Packing.{bytes-length}
-use Rattle.packing.proofs.Filled.{one-more, filled}
 use Rattle.packing.proofs.fill.Statement.{statement}
 use Rattle.packing.proofs.fill.Tie as tie
 
@@ -45,7 +45,7 @@ loop-again c =
     let bits : List ℕ = fieldBits (a .plan) (a .size) (a .values .now) in
     let n : ℕ = length (a .buffer .now) in
     let same = bytes-length n bits in
-    (search needs, simp length-set (l .inv .1), one-more (l .buffer) (bytes n bits) (l .j) (c .byte-at .result) (omega arith) (omega arith) (l .inv .2) (c .byte-at .ensures ∙ sym (bytes-at n bits (l .j) (omega arith))))
+    (search needs, simp length-set (l .inv .1), agree-next (l .buffer) (bytes n bits) (l .j) (c .byte-at .result) (omega arith) (omega arith) (l .inv .2) (c .byte-at .ensures ∙ sym (bytes-at n bits (l .j) (omega arith))))
 
 same-length : tie.Need-same-length Inv-loop μ-loop
 same-length c = search needs
@@ -57,7 +57,7 @@ returns c =
     let bits : List ℕ = fieldBits (a .plan) (a .size) (a .values .now) in
     let n : ℕ = length (a .buffer .now) in
     let same = bytes-length n bits in
-    filled (l .buffer) (bytes n bits) (l .j) (omega arith) (omega arith) (l .inv .2)
+    agree-all (l .buffer) (bytes n bits) (l .j) (omega arith) (omega arith) (l .inv .2)
 
 pub fill-spec : {M : Type 1} → statement M
 fill-spec =
