@@ -1,1 +1,2 @@
+-- What the calls give fits the buffers: Room.
 pub mod Room

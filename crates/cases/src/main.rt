@@ -3,7 +3,6 @@ use libc::STDOUT_FILENO;
 use rules::Answer;
 use rules::Sketch;
 ghost use mathlib.Core.Path.{_≡_};
-ghost use mathlib.Core.Bool.{true, not, _||_};
 ghost use mathlib.Core.List.{_∷_};
 ghost use Prim.Native.Nat.{_+_, _≤_, _<_};
 ghost use lib.ListN.{length, take, replicate};
@@ -123,7 +122,7 @@ fn reconcile_case(label: &[u8], s: Sketch, home: &[u32]) -> usize
     t + o
 }
 
-// Sketches of one and of two samples, by their size and values: they need be those of no set.
+// Sketches of one and of two samples, by their size and values: they need not be those of any set.
 fn one_value(size: u32, v: u32) -> Sketch
     ensures { λ r. ⌜ (r .plan ≡ 0) × (r .size ≡ size) × (r .values ≡ v ∷ replicate 63 0) ⌝ }
 {

@@ -4,7 +4,7 @@
 --   told a                         number and place of an answer
 --   requests, usual                the requests that name no plan; the usual plan
 --   lengths                        "5 for m = 1, 37 for m = 16, 139 for m = 64"
---   slots-filled, forms, forms-broken      the slots of a sketch; which sketches are well formed
+--   slots-filled, forms, forms-broken      the slots of a sketch; which sketches are well-formed
 --   lists, sketches, blank-given   refusals 1 to 4 in their order; what a refused sketch returns
 --   writes, written, not-written   refusals 6 and 5; the buffer after a write, and after a refused one
 --   reads, reads-two, blank-read   refusals 7 to 11 in their order; what a refused read returns

@@ -1,6 +1,9 @@
 -- Document 01, "The night report": its example and inputs of each kind, computed from the definitions.
 --
---   example-form, example-text     `have 1` and `message 110002fffd7ffe00`: what they hold, and the three lines for the difference
+--   example, example-form, example-text    `have 1` and `message 110002fffd7ffe00`: what they hold, and the three lines for the difference
+--   refused-13, refused-4          the lines of two refusals
+--   none-found                     the three lines where a count is 0
+--   long-60001, not-long-60000     input that is too long, and input of the largest length
 --   bad-.., good-..                inputs that are bad at a line, and inputs that are not
 --   read-first, too-long           what is written where the read refuses and the keys are bad too, and where the input is too long
 --

@@ -1,7 +1,7 @@
 -- Keys and bytes that a loop moves.
 --
 --   take-least             as many keys as there are, or as there is room for
---   Passed bytes room i after falls    the first i keys of a buffer stand in front of `after`, which has `room` places, and `falls` is 0 exactly where they ascend
+--   Passed bytes room i after falls    the first i keys of a buffer stand in front of `after`, of `room` places; `falls` is 0 just where they ascend
 --   passed-first, passed-next      the first key; one more
 --   passed-none, passed-all        no key, or all that there is room for: they are taken
 --   bytes-put              a copy of keys as bytes, in the words of the contract

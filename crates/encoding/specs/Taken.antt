@@ -1,7 +1,7 @@
 -- Keys taken out of a buffer into a list that may be too short for them.
 --
---   Taken bytes keys after count ascending     the first `count` of `after` are the buffer's keys, as many as `keys` has room for, and `ascending` tells whether
---                          those ascend
+--   Taken bytes keys after count ascending     the first `count` of `after` are the buffer's keys, as many as `keys` has room for, and
+--                          `ascending` tells whether those ascend
 --
 -- Assumes nothing.
 use mathlib.Core.Path.{_≡_}

@@ -2,6 +2,7 @@
 --
 --   left r theirs ours     what a call leaves, from its result and its two buffers
 --   Exchanges              the relation
+--   Sent a                 the same by the answer a of the dome's sketch
 --   exchange-one           of one outcome, since reconcile has one
 --   exchange-stands        no more keys are counted than stand in the buffers afterwards
 --

@@ -1,1 +1,2 @@
+-- What an exchange answers and leaves: Exchanged.
 pub mod Exchanged

@@ -1,7 +1,6 @@
 // Dome and home in one call: the dome's list sketched and written, the message read and reconciled with home's list. Its contract is demand 3.
 use reconcile::Reconciled;
 use rules::Answer;
-ghost use mathlib.Core.Path.{_≡_};
 ghost use Prim.Native.Nat.{_≤_};
 ghost use lib.ListN.{length};
 ghost use Rattle.rules.specs.Numbers.{planOf, samples};

@@ -1,7 +1,7 @@
 -- The size gap n − count of home, an integer of either sign, in terms of the two numbers that it is the difference of.
 --
 --   degreeOf m n h     (m + d) / 2, rounded down, for the gap d of n and h; (m − d) / 2 is degreeOf m h n
---   order              of two numbers one is below, or not above, the other
+--   order              a < b or b ≤ a, of any two numbers
 --   sub-ge, sub-lt     the difference by its sign
 --   gap-eq, eq-gap     equal differences are equal sums crosswise, and the other way round
 --   below-test, above-test     the two tests of refusal 12

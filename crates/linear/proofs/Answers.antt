@@ -27,7 +27,7 @@ use Rattle.residue.specs.Field.{𝓕, res, zero-is, sub-is, mul-is, inverse-is,
 use Rattle.residue.specs.Folded.{digitSum}
 use Rattle.linear.specs.Solved.{vector, matrix, Solution, Insoluble}
 use Rattle.linear.specs.Echelon.{Sifted, echelon-none, sifted-of, kept, passed, refuted, closed-all, insoluble}
-use Rattle.linear.specs.Rows.{minusInverse, Zeros, Loaded, Scaled, Related, SiftedTo, Refuted, Reduced, Substituted}
+use Rattle.linear.specs.Rows.{minusInverse, Zeros, Loaded, Scaled, Related, SiftedTo, Refuted, Eliminated, Substituted}
 use Rattle.linear.proofs.Piles.{res-digit-sum}
 use Rattle.linear.proofs.Places.{inside}
 open Field 𝓕 using (ring as 𝓡, inv, inv-mul)
@@ -76,7 +76,7 @@ module _ {c i p : ℕ} {rows rel d₀ d₁ d : List ℕ} (s : Related c i rows r
         | no b ↦ omega (arith, inside p q (c + 1) (omega (arith, b, n)))
       ]))
 
-  pub last-row : {f : ℕ} → c ≤ p → f ≡ getD d c 0 % modulus → Reduced c (i + 1) rows rel (eqb f 0)
+  pub last-row : {f : ℕ} → c ≤ p → f ≡ getD d c 0 % modulus → Eliminated c (i + 1) rows rel (eqb f 0)
   last-row {f} h e = go (eqb f 0) refl
     where
       end : p ≡ c
@@ -85,7 +85,7 @@ module _ {c i p : ℕ} {rows rel d₀ d₁ d : List ℕ} (s : Related c i rows r
       all : Sifted 𝓡 (c + 1) c c (matrix (c + 1) rel) (matrix (c + 1) rows i) (vector d)
       all = rw end at left
 
-      go : (b : Bool) → eqb f 0 ≡ b → Reduced c (i + 1) rows rel b
+      go : (b : Bool) → eqb f 0 ≡ b → Eliminated c (i + 1) rows rel b
       go true t = record { reduced = s .reduced; echelon = rw (add-one i) (passed 𝓕 (s .echelon) (add-one c) all (res-eq-zero (getD d c 0) (sym e ∙ eqb-true f 0 t))) }
       go false t = record { none = rw (add-one i) (refuted 𝓕 (s .echelon) (add-one c) all (λ y. eqb-false f 0 t (e ∙ eq-zero-res (getD d c 0) y))) }
 

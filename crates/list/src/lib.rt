@@ -1,4 +1,4 @@
-// Lists of keys: the test of a list, which has at most so many keys, each legal and above the one before it; and whether it holds a key.
+// Lists of keys: the test of a list, which has at most 16,384 keys, each legal and above the one before it; and whether it holds a key.
 use rules::Answer;
 use rules::KEY_LIMIT;
 use rules::LIST_LIMIT;

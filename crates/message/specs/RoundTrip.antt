@@ -5,11 +5,15 @@
 --   length-message, below-message  a message has its plan's length, and each of its bytes is below 256
 --   message-field          a field of a message, as it stands in its bits
 --   Reads b s, result-in           reading b succeeds and gives s; which is the sketch that stands in b
+--   message-sketch         the sketch that stands in the message of a well-formed sketch is that sketch
 --   read-message           the message of a well-formed sketch is read, as that sketch
+--   read-formed, read-bytes    the sketch that stands in a readable message is well-formed, and its message is those bytes
 --   message-read           what is read is well-formed, and the bytes that were read are its message
 --   one-message            well-formed sketches with one message are one
 --   read-written           what a write puts into any buffer that has room for it is read back
---   lengths, example-read, misses  computed: the length of each plan's message, a message, and bytes next to it that are refused
+--   lengths                computed: the length of each plan's message
+--   example, example-read  a message, and what it is read as
+--   next-to-example, misses    bytes next to it, and the number by which each is refused
 --
 -- Assumes nothing.
 use mathlib.Core.Path.{_≡_, refl, sym, ap, ap₂, subst, _∙_}

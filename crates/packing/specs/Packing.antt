@@ -1,20 +1,20 @@
 -- Numbers as bits and back, over any width, any number and any list: nothing here knows the fields of a message.
 --
 --   Below k l              every entry of l is below k; what stands past the end of a list counts as 0
---   below-inside, below-append, below-drop     enough for the entries that are there; of lists joined, and of a rest
+--   below-append, below-drop                   of lists joined, and of a rest
 --   padded k bs            the first k entries of bs, and zeros where it has fewer
---   padded-take, padded-zeros, padded-self     that is its first part, or all of it and zeros, or itself
---   padded-length, padded-at, padded-all, padded-add, padded-part, padded-again      how long, what stands at an index, and by parts
+--   padded-zeros, padded-self                  that is all of it and zeros, or itself
+--   padded-length, padded-all, padded-add, padded-part, padded-again      how long, and by parts
 --   bits-length, bits-below        w bits, each below 2
 --   number-bits, number-self       w bits of n, whatever follows them, make n modulo 2 ^ w: n itself where it fits
 --   number-below, number-ext, number-none      w bits make a number below 2 ^ w; only the first w entries count; none make 0
---   bits-number, bits-take, same-bits          the bits of a number that w bits make are those bits; so other bits make another number
+--   bits-number, same-bits   the bits of a number that w bits make are those bits; so other bits make another number
 --   all-length, all-below          the bits of a list of numbers: how many, each below 2
 --   all-drop, drop-next, all-number        from block i on they are the bits of the rest of the list, and block i makes entry i
 --   blocks w n bs          the n numbers that the first n times w bits make
---   blocks-length, blocks-at, blocks-below     how many, what stands at an index, each below 2 ^ w
+--   blocks-length, blocks-below                how many, each below 2 ^ w
 --   all-blocks, blocks-all         bits to numbers and back; numbers to bits and back
---   bytes-length, bytes-below, all-bytes, all-bytes-zeros, bytes-all      the same of bytes
+--   bytes-length, bytes-below, all-bytes, bytes-all      the same of bytes
 --   field-bytes, field-below       a field of packed bits, as it is read from the bytes; a field of w bits is below 2 ^ w
 --
 -- Assumes nothing.
@@ -27,19 +27,13 @@ use native.Mathlib.Numerals.{one-add}
 use lib.Dec.{lit<}
 use lib.Arith.{digits-lt}
 use lib.Pow.{pow-pos, mod-pow-add, high}
-use lib.ListN.{length, take, drop, getD, replicate, length-append}
+use lib.ListN.{length, drop, getD, replicate, length-append}
 use lib.Seq.{drop-at, drop-cons, drop-drop, drop-length, drop-nil, getD-drop}
-use Rattle.algebra.specs.Tabulate.{tabulate, tabulate-length, tabulate-at, tabulate-ext, tabulate-self}
+use Rattle.algebra.specs.Tabulate.{tabulate, tabulate-length, tabulate-ext, tabulate-self}
 use Rattle.rules.specs.Messages.{bits, number, bitsOfAll, bytes, fieldAt}
 
 abbrev pub Below : ℕ → List ℕ → Type 0
 Below k l = (i : ℕ) → getD l i 0 < k
-
--- the entries that are there are enough
-pub below-inside : (k : ℕ) (l : List ℕ) → 0 < k → ((i : ℕ) → i < length l → getD l i 0 < k) → Below k l
-below-inside k [] p f i = p
-below-inside k (x ∷ l) p f zero = f 0 (omega arith)
-below-inside k (x ∷ l) p f (suc i) = below-inside k l p (λ j h. f (suc j) (omega arith)) i
 
 pub below-append : (k : ℕ) (xs ys : List ℕ) → Below k xs → Below k ys → Below k (xs ++ ys)
 below-append k [] ys f g i = g i
@@ -62,10 +56,6 @@ pub padded-length : (k : ℕ) (bs : List ℕ) → length (padded k bs) ≡ k
 unfolding padded
 padded-length k bs = tabulate-length k (λ i. getD bs i 0)
 
-pub padded-at : (k : ℕ) (bs : List ℕ) (i : ℕ) → i < k → getD (padded k bs) i 0 ≡ getD bs i 0
-unfolding padded
-padded-at k bs i h = tabulate-at k (λ i. getD bs i 0) i 0 h
-
 pub padded-self : (bs : List ℕ) → padded (length bs) bs ≡ bs
 unfolding padded
 padded-self bs = tabulate-self bs 0
@@ -82,12 +72,6 @@ padded-add zero k bs = ap (λ (n : ℕ). padded n bs) (zero-add k)
 padded-add (suc j) k bs =
     ap (λ (n : ℕ). padded n bs) (suc-add j k) ∙ padded-suc (j + k) bs ∙ ap (λ l. getD bs 0 0 ∷ l) (padded-add j k (drop 1 bs))
     ∙ ap₂ (λ x y. x ++ y) (sym (padded-suc j bs)) (ap (padded k) (drop-drop j 1 bs ∙ ap (λ (n : ℕ). drop n bs) (one-add j)))
-
-pub padded-take : (k : ℕ) (bs : List ℕ) → k ≤ length bs → padded k bs ≡ take k bs
-unfolding padded tabulate
-padded-take zero bs h = refl
-padded-take (suc k) [] h = absurd (omega arith)
-padded-take (suc k) (b ∷ bs) h = ap (λ l. b ∷ l) (padded-take k bs (omega arith))
 
 padded-none : (k : ℕ) → padded k [] ≡ replicate k 0
 unfolding padded tabulate
@@ -159,9 +143,6 @@ bits-number (suc w) bs f =
     (bits-low w (getD bs 0 0) (number w (drop 1 bs)) ∙ bits-number w (drop 1 bs) g)
     ∙ sym (padded-suc w bs)
 
-pub bits-take : (w : ℕ) (bs : List ℕ) → Below 2 bs → w ≤ length bs → bits w (number w bs) ≡ take w bs
-bits-take w bs f h = bits-number w bs f ∙ padded-take w bs h
-
 pub same-bits : (w : ℕ) (bs cs : List ℕ) → Below 2 bs → Below 2 cs → number w bs ≡ number w cs → padded w bs ≡ padded w cs
 same-bits w bs cs f g e = sym (bits-number w bs f) ∙ ap (bits w) e ∙ bits-number w cs g
 
@@ -202,10 +183,6 @@ pub blocks-length : (w n : ℕ) (bs : List ℕ) → length (blocks w n bs) ≡ n
 unfolding blocks
 blocks-length w n bs = tabulate-length n (λ i. number w (drop (w * i) bs))
 
-pub blocks-at : (w n : ℕ) (bs : List ℕ) (i : ℕ) → i < n → getD (blocks w n bs) i 0 ≡ number w (drop (w * i) bs)
-unfolding blocks
-blocks-at w n bs i h = tabulate-at n (λ i. number w (drop (w * i) bs)) i 0 h
-
 blocks-suc : (w n : ℕ) (bs : List ℕ) → blocks w (suc n) bs ≡ number w bs ∷ blocks w n (drop w bs)
 unfolding blocks tabulate
 blocks-suc w n bs =
@@ -245,9 +222,6 @@ bytes-below n bs f i = rw (bytes-blocks n bs) (blocks-below 8 n bs f i)
 
 pub all-bytes : (n : ℕ) (bs : List ℕ) → Below 2 bs → bitsOfAll 8 (bytes n bs) ≡ padded (8 * n) bs
 all-bytes n bs f = ap (bitsOfAll 8) (bytes-blocks n bs) ∙ all-blocks 8 n bs f
-
-pub all-bytes-zeros : (n k : ℕ) (bs : List ℕ) → Below 2 bs → length bs + k ≡ 8 * n → bitsOfAll 8 (bytes n bs) ≡ bs ++ replicate k 0
-all-bytes-zeros n k bs f e = all-bytes n bs f ∙ ap (λ (j : ℕ). padded j bs) (sym e) ∙ padded-zeros k bs
 
 pub bytes-all : (b : List ℕ) → Below 256 b → bytes (length b) (bitsOfAll 8 b) ≡ b
 bytes-all b f = bytes-blocks (length b) (bitsOfAll 8 b) ∙ blocks-all 8 b f

@@ -10,7 +10,7 @@ ghost use lib.ListN.{length};
 // The most keys of a set, and the room for a difference: that of 64 samples.
 const KEYS: usize = rules::MOST_SAMPLES;
 
-// Key j of a pair lies in the j-th part of this many.
+// Key j of a pair is one of the 1,000 numbers from j times this on.
 const PART: u32 = 1000;
 
 const PAIRS: u32 = 128;

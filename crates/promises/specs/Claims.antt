@@ -1,9 +1,12 @@
 -- What a case of document 01 claims, and how such a claim is shown.
 --
 --   Claim, Holds           a value, a message, the values of a sketch, a refused list; what reconcile tells, or that it refuses by 13
+--   Always s home outcome  whatever reconcile's contract allows, in any buffers with room, is this outcome
+--   told, refused-13       the outcome that tells two lists, and that of a refusal by 13
 --   Ready s home           the sketch and the list pass, and the gap is in range
---   told-holds, none-holds a difference makes reconcile tell it; that there is none makes it refuse by 13
+--   told-holds, none-holds    a difference makes reconcile tell it; that there is none makes it refuse by 13
 --   All P l                P of each element of a list
+--   below f n              f holds of every number below n
 --   no-key                 a test that the checker computes over every legal key
 --
 -- Assumes nothing.

@@ -1,3 +1,4 @@
+-- The demands: Unique, Honest, Demands. C entries and report: Entries, Reports. The starred cases: Claims, Starred.
 pub mod Unique
 pub mod Entries
 pub mod Reports

@@ -14,7 +14,7 @@ use lib.ListN.{length, take, drop, replicate, take-append-drop}
 use lib.Seq.{length-take-le}
 use Rattle.rules.specs.Calls.{readAnswer, readResult}
 use Rattle.rules.specs.Reconciling.{Left}
-use Rattle.rules.specs.Report.{text, Form, tooLong, badLine, whole, formOf, answered, room, Reconciled, AfterRead, Says, Reports}
+use Rattle.rules.specs.Report.{text, Form, tooLong, badLine, whole, formOf, answered, room, AfterReconcile, AfterRead, Says, Reports}
 use Rattle.rules.specs.Cases.{sketch-2, difference-7}
 use Rattle.computed.specs.CallCases.{message-7, read-7, sketch-7}
 use Rattle.computed.specs.ReportCases.{example, example-form, example-text}
@@ -25,7 +25,7 @@ use Rattle.promises.specs.Unique.{reconcile-one}
 use Rattle.promises.specs.Claims.{told-holds}
 use Rattle.promises.specs.Starred.{ready-7}
 
-reconciled-one : (s : Sketch) (keys a b : List ℕ) → Reconciled s keys a → Reconciled s keys b → a ≡ b
+reconciled-one : (s : Sketch) (keys a b : List ℕ) → AfterReconcile s keys a → AfterReconcile s keys b → a ≡ b
 reconciled-one s keys a b x y =
     x .written ∙ ap (λ (left : Left). answered (left .answer) s keys left) (reconcile-one s keys room room (x .left) (y .left) (x .reconciles) (y .reconciles)) ∙ sym (y .written)
 
@@ -56,11 +56,11 @@ pub example-output : (output : List ℕ) → Reports example output → output �
 unfolding Reports
 example-output output r = reconciled (subst (λ (f : Form). Says f output) example-form r)
   where
-    found : Reconciled (sketch-2 1 65533 65532) (1 ∷ []) output → output ≡ text "plan 1 peer 1 own 1\ntheirs 1: 3\nours 1: 1\n"
+    found : AfterReconcile (sketch-2 1 65533 65532) (1 ∷ []) output → output ≡ text "plan 1 peer 1 own 1\ntheirs 1: 3\nours 1: 1\n"
     found x =
         x .written
         ∙ ap (λ (left : Left). answered (left .answer) (sketch-2 1 65533 65532) (1 ∷ []) left) (told-holds (sketch-2 1 65533 65532) (1 ∷ []) (3 ∷ []) (1 ∷ []) ready-7 difference-7 room room (lit≤ tt) (lit≤ tt) (x .left) (x .reconciles))
         ∙ example-text
 
     reconciled : AfterRead (readAnswer message-7) (readResult message-7) (1 ∷ []) output → output ≡ text "plan 1 peer 1 own 1\ntheirs 1: 3\nours 1: 1\n"
-    reconciled x = found (subst (λ (s : Sketch). Reconciled s (1 ∷ []) output) sketch-7 (subst (λ (a : Answer). AfterRead a (readResult message-7) (1 ∷ []) output) read-7 x))
+    reconciled x = found (subst (λ (s : Sketch). AfterReconcile s (1 ∷ []) output) sketch-7 (subst (λ (a : Answer). AfterRead a (readResult message-7) (1 ∷ []) output) read-7 x))

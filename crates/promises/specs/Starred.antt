@@ -1,6 +1,8 @@
 -- The thirteen starred cases of document 01, "Values to hold against it", as one list with one claim over it.
 --
+--   Case               a case: its number and its claims
 --   starred            the list: each case with its number and what it claims
+--   ready-7            the sketch and the list of case 7 are ready
 --   starred-hold       every claim of every case holds
 --
 -- Assumes nothing.

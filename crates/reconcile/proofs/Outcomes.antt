@@ -1,8 +1,10 @@
 -- The outcomes of reconcile, each from what led to it.
 --
---   search-ready       what the search asks, once the tests have passed
+--   Asked m            what the search asks, for m samples
+--   search-ready       it holds once the tests have passed
 --   refused            a refusal of the tests
 --   nothing            the search finds that there is no difference
+--   something-rooms    it finds one: the counts fit its two arrays, and together they are at most the samples
 --   something          it finds one, and the lists fill the fronts of the buffers
 --
 -- Assumes nothing.

@@ -1,6 +1,6 @@
 -- What reconcile's tests say where they refuse nothing.
 --
---   Passing s home t o, passing    the sketch is well formed, the list legal, both buffers have room and the gap is in range
+--   Passing s home t o, passing    the sketch is well-formed, the list legal, both buffers have room and the gap is in range
 --   passes-tests                   and the other way round
 --
 -- Assumes nothing.

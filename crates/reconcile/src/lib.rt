@@ -1,9 +1,8 @@
-// Reconciling: from a peer's sketch and the home list, exactly the difference, or an honest refusal.
+// Reconciling: from the dome's sketch and the home list, exactly the difference, or an honest refusal.
 use rules::Answer;
 use rules::Refusal;
 use rules::Sketch;
 ghost use mathlib.Core.Path.{_≡_};
-ghost use lib.ListN.{length};
 ghost use Rattle.rules.specs.Calls.{listAnswer, reconcileTests};
 ghost use Rattle.rules.specs.Reconciling.{Reconciles};
 
@@ -40,7 +39,7 @@ fn tests(s: Sketch, home: &[u32], list: Answer, theirs: usize, ours: usize) -> A
     Answer::Done
 }
 
-// What each side lacks: the keys that are new at home in the first entries of theirs, those that the peer lacks in those of ours. Both lists are found in
+// What each side lacks: the keys that are new at home in the first entries of theirs, those that the dome lacks in those of ours. Both lists are found in
 // arrays of this call and copied once, on success: a refusal leaves both buffers as they were. The list's own test has been made by the caller.
 pub fn reconcile_told(
     s: Sketch,

@@ -18,7 +18,7 @@ use lib.Seq.{sets-eq, length-sets, take-at, drop-at}
 use Rattle.rules.specs.Refusals.{numberOf, placeOf}
 use Rattle.rules.specs.Calls.{readAnswer, readResult}
 use Rattle.rules.specs.Reconciling.{Left, Reconciles}
-use Rattle.rules.specs.Report.{text, inputLimit, Form, tooLong, badLine, whole, formOf, withFirst, firstLine, refusedText, badLineText, foundText, answered, room, Reconciled, AfterRead, Says, Reports}
+use Rattle.rules.specs.Report.{text, inputLimit, Form, tooLong, badLine, whole, formOf, withFirst, firstLine, refusedText, badLineText, foundText, answered, room, AfterReconcile, AfterRead, Says, Reports}
 use Rattle.rules.specs.declared.Sketch.{Sketch}
 use Rattle.rules.specs.declared.Refusal.{Refusal}
 use Rattle.rules.specs.declared.Answer.{Answer}
@@ -33,7 +33,7 @@ module _ (before after : List ℕ) (end : ℕ) where
   widen P Q f w = record { text = w .text; said = f (w .text) (w .said); put = w .put; fits = w .fits }
 
   pub refused-outcome : (s : Sketch) (keys : List ℕ) (left : Left) (r : Refusal) → Reconciles s keys room room left → left .answer ≡ Refused r
-      → Puts before 0 (refusedText (numberOf (left .answer)) (placeOf (left .answer))) after end × (end ≤ textRoom) → Written (Reconciled s keys) before after end
+      → Puts before 0 (refusedText (numberOf (left .answer)) (placeOf (left .answer))) after end × (end ≤ textRoom) → Written (AfterReconcile s keys) before after end
   refused-outcome s keys left r x e p = record {
     text = refusedText (numberOf (left .answer)) (placeOf (left .answer));
     said = record { left = left; reconciles = x; written = subst (λ (a : Answer). refusedText (numberOf a) (placeOf a) ≡ answered a s keys left) (sym e) refl };
@@ -42,7 +42,7 @@ module _ (before after : List ℕ) (end : ℕ) where
   }
 
   pub found-outcome : (s : Sketch) (keys : List ℕ) (left : Left) → Reconciles s keys room room left → left .answer ≡ Done
-      → Puts before 0 (foundText (s .plan) (s .size) (length keys) (take (left .theirs-count) (left .theirs)) (take (left .ours-count) (left .ours))) after end × (end ≤ textRoom) → Written (Reconciled s keys) before after end
+      → Puts before 0 (foundText (s .plan) (s .size) (length keys) (take (left .theirs-count) (left .theirs)) (take (left .ours-count) (left .ours))) after end × (end ≤ textRoom) → Written (AfterReconcile s keys) before after end
   found-outcome s keys left x e p = record {
     text = foundText (s .plan) (s .size) (length keys) (take (left .theirs-count) (left .theirs)) (take (left .ours-count) (left .ours));
     said = record { left = left; reconciles = x; written = sym (ap (λ (a : Answer). answered a s keys left) e) };
@@ -59,9 +59,9 @@ module _ (before after : List ℕ) (end : ℕ) where
     fits = p .1;
   }
 
-  pub good-read : (answer answer′ : Answer) (s s′ : Sketch) (keys : List ℕ) → answer ≡ answer′ → answer ≡ Done → s ≡ s′ → Written (Reconciled s keys) before after end → Written (AfterRead answer′ s′ keys) before after end
+  pub good-read : (answer answer′ : Answer) (s s′ : Sketch) (keys : List ℕ) → answer ≡ answer′ → answer ≡ Done → s ≡ s′ → Written (AfterReconcile s keys) before after end → Written (AfterRead answer′ s′ keys) before after end
   good-read answer answer′ s s′ keys same e is w =
-      widen (Reconciled s keys) (AfterRead answer′ s′ keys) (λ t x. subst (λ (a : Answer). AfterRead a s′ keys t) (sym e ∙ same) (subst (λ (y : Sketch). Reconciled y keys t) is x)) w
+      widen (AfterReconcile s keys) (AfterRead answer′ s′ keys) (λ t x. subst (λ (a : Answer). AfterRead a s′ keys t) (sym e ∙ same) (subst (λ (y : Sketch). AfterReconcile y keys t) is x)) w
 
   pub bad-form : (form : Form) (n : ℕ) → form ≡ badLine n → Puts before 0 (badLineText n) after end × (end ≤ textRoom) → Written (Says form) before after end
   bad-form form n e p = record { text = badLineText n; said = subst (λ (f : Form). Says f (badLineText n)) (sym e) refl; put = p .0; fits = p .1 }

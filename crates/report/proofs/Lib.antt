@@ -1,3 +1,3 @@
--- What reconcile leaves, as far as the lines need it: Outcomes. From the buffer to the contracts: Answering.
+-- What reconcile leaves, as far as the lines need it, and what follows line 2: Outcomes. From the buffer to the contracts: Answering.
 pub mod Outcomes
 pub mod Answering

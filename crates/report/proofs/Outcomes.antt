@@ -1,4 +1,4 @@
--- What reconcile leaves, as far as the report's lines need it.
+-- What reconcile leaves, as far as the report's lines need it, and what follows line 2.
 --
 --   few-found              the keys of a difference are at most as many as the largest plan has samples
 --   nothing-behind, something-behind       where nothing follows line 2 the input is whole, and else it is bad at line 3

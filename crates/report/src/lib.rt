@@ -1,11 +1,10 @@
 // Document 01, "The night report": text in, text out. The program `night_report` reads and writes around it.
 use rules::Answer;
 use rules::Sketch;
-ghost use mathlib.Core.Path.{_≡_};
 ghost use Prim.Native.Nat.{_≤_};
 ghost use lib.ListN.{length};
 ghost use Rattle.rules.specs.Calls.{readAnswer, readResult};
-ghost use Rattle.rules.specs.Report.{inputLimit, keysLimit, Reconciled, AfterRead, secondLine, withSecond, Says, Reports};
+ghost use Rattle.rules.specs.Report.{inputLimit, keysLimit, AfterReconcile, AfterRead, secondLine, withSecond, Says, Reports};
 ghost use Rattle.report_text.specs.Puts.{textRoom};
 ghost use Rattle.report.specs.Answers.{Written, Told};
 
@@ -28,7 +27,7 @@ pub struct Text {
 // The lines for a sketch and the home keys.
 fn put_outcome(out: &mut [u8], s: Sketch, keys: &[u32]) -> usize
     requires { ⌜ (textRoom ≤ length (now out)) × (length (now keys) ≤ keysLimit) ⌝ }
-    ensures { λ r. ⌜ Written (Reconciled s (now (keys .entry))) (now (out .entry)) (now (out .exit)) r ⌝ }
+    ensures { λ r. ⌜ Written (AfterReconcile s (now (keys .entry))) (now (out .entry)) (now (out .exit)) r ⌝ }
 {
     let mut theirs = [0u32; rules::MOST_SAMPLES];
     let mut ours = [0u32; rules::MOST_SAMPLES];

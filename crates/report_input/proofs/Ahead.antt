@@ -1,6 +1,7 @@
 -- A line of which the front was read.
 --
---   ahead held line        the line with more in front of what it holds; `ahead-none`, `ahead-first`
+--   ahead held line        the line with more in front of what it holds
+--   ahead-none, ahead-first    nothing in front; what a line holds first goes behind what is in front
 --   is-bad                 a bad line is read as one
 --   to-end                 a part from k on
 --   behind                 a line that begins k bytes on is read from there

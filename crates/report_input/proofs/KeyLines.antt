@@ -2,6 +2,7 @@
 --
 --   KeysRead line keys i n digits key      i bytes were read, n keys stored, and of the key being read so many digits, worth `key`
 --   begun, digit, stored-space             it begins so; a digit more; a key stored and a space
+--   fewer                                  a key of fewer than nine digits is below 100,000,000
 --   ended, no-digit, full, stored-newline, stored-other    what ends it
 --
 --   none, newline-first, other-first, space-first      what stands behind the word
@@ -38,10 +39,6 @@ pub record KeysRead (line keys : List ℕ) (i n digits key : ℕ) : Type 0 where
 
 pub begun : (line keys : List ℕ) → length keys ≡ keysLimit → KeysRead line keys 0 0 0 0
 begun line keys e = record { here = omega arith; room = e; count = omega arith; few = omega arith; small = omega arith; so-far = sym (ahead-none (keysFrom 0 0 line)) }
-
--- a key has at most nine digits
-pub worth : (key digits : ℕ) → key < 10 ^ digits → digits ≤ digitsLimit → key < 1000000000
-worth key digits s f = let p : 10 ^ digits ≤ 10 ^ digitsLimit = pow-le-pow-right (omega arith) f in omega arith
 
 pub fewer : (key digits : ℕ) → key < 10 ^ digits → digits < digitsLimit → key < 100000000
 fewer key digits s f = let g : digits ≤ 8 = omega arith in let p : 10 ^ digits ≤ 10 ^ 8 = pow-le-pow-right (omega arith) g in omega arith

@@ -2,7 +2,6 @@
 --
 --   none, one, join        nothing; one byte; a text and then another
 --   first-bytes            one byte more of a text
---   as-long                a buffer keeps its length
 --   all-of                 the first bytes are all of a text
 --   next-key               the text of one key more
 --
@@ -13,7 +12,7 @@ use Prim.Native.Nat.{ℕ, suc, _+_, _≤_, _<_}
 use native.Mathlib.Nat.{add-zero, add-suc, suc-add}
 use native.Mathlib.Omega.{arith}
 use lib.ListN.{length, getD, take, set, length-append}
-use lib.Seq.{sets, length-sets, take-all}
+use lib.Seq.{sets, take-all}
 use Rattle.algebra.specs.Prefix.{take-next}
 use Rattle.rules.specs.Report.{text, decimal, keysText}
 use Rattle.report_text.specs.Puts.{Puts}
@@ -34,9 +33,6 @@ join {a} {b} {c} {t} {u} {at} {m} {e} p q =
       written = q .written ∙ ap (λ (k : ℕ). sets b k u) (p .ends) ∙ ap (λ (l : List ℕ). sets l (at + length t) u) (p .written) ∙ sym (sets-append t u a at);
       ends = let l = length-append t u in omega (arith, p .ends, q .ends);
     }
-
-pub as-long : {a b t : List ℕ} {at e : ℕ} → Puts a at t b e → length b ≡ length a
-as-long {a} {b} {t} {at} {e} p = ap length (p .written) ∙ length-sets a at t
 
 pub first-bytes : (l out t : List ℕ) (at i : ℕ) → i < length t → Puts l at (take i t) out (at + i) → Puts l at (take (i + 1) t) (set out (at + i) (getD t i 0)) (at + (i + 1))
 first-bytes l out t at i h p =

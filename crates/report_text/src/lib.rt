@@ -1,6 +1,5 @@
 // The lines that the night report writes, each into a lent buffer from a place on; each function answers the place behind what it wrote.
 use rules::Answer;
-ghost use mathlib.Core.Path.{_≡_};
 ghost use Prim.Native.Nat.{_+_, _*_, _≤_};
 ghost use lib.ListN.{length};
 ghost use Rattle.rules.specs.Report.{decimal, keysText, listText, countsText, foundText, badLineText, refusedText};

@@ -1,8 +1,12 @@
 -- Document 01, "Numbers of refusal", from "Order" on: what each call answers and gives, for every input.
 --
+--   keysAnswer i least l   the first bad key of a list, from index i on, where the next key is to be at least `least`
 --   listAnswer             what is wrong with a list; sketch and reconcile test it alike
 --   sketchAnswer, sketchResult     the sketch of a list
 --   writeAnswer, writeLength, writeBuffer      the length that a write gives, and the buffer after it
+--   messagePlan, messageSamples, messageSize, messageValue b i, messagePadding    what stands in a message: plan code, m, size, value i, padding
+--   valuesAnswer b i n     the first bad value field of n, from sample i on
+--   sketchIn               the sketch that stands in a message
 --   readAnswer, readResult         reading a message
 --   addAnswer, addResult, removeAnswer, removeResult       the running sketch
 --   reconcileTests         what reconcile answers before it looks for a difference; where that is success, 13 exactly if none exists

@@ -1,8 +1,13 @@
 -- Document 01, "Message bits": the message of a sketch, and how its fields are read back.
 --
 --   bits w n, number w bs      a number as w bits, the most significant first, and back
+--   bitsOfAll w ns             numbers as w bits each, one after the other
+--   version                    the version that every message carries
+--   versionWidth, planWidth, sizeWidth, valueWidth    the bits of each field
+--   planAt, sizeAt, valueAt i  the bit at which the plan code, the size and value i, from 0, begin
 --   fields s                   the bits of a sketch's message, but for the padding
 --   messageLength m            its length in bytes
+--   bytes n bs                 the first n bytes of some bits; what stands past their end counts as 0
 --   message s                  the message
 --   fieldAt b at w             the number that stands in w bits from bit `at` of the bytes b
 --

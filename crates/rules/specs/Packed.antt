@@ -3,10 +3,11 @@
 --   number-back, place-back, first-back, second-back   each part of a packed number comes back, where it keeps to its bits
 --   packed-fits            a packed number has 64 bits
 --   number-small           every number of an answer has 8 bits
---   SmallPlace a           the place of an answer has 24 bits; small-list, small-sketch, small-write, small-sketch-entry, small-read, small-reconcile: it
---                          always does; small-then, small-when: so of a chain of tests
+--   SmallPlace a           the place of an answer has 24 bits
+--   small-list, small-sketch, small-write, small-sketch-entry, small-read, small-reconcile    that of each call always does
+--   small-then, small-when    so of a chain of tests
 --   keys-length, keys-at   how many keys a buffer has, and each of them
---   bytes-length, bytes-at the same of keys as bytes
+--   bytes-length, bytes-at    the same of keys as bytes
 --   keys-back              keys of 32 bits are those of their bytes
 --
 -- Assumes nothing.

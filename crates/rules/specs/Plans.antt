@@ -1,7 +1,7 @@
 -- The rule of the table of plans, from one test that the checker computes over all of it.
 --
 --   every f l, every-at    f holds of each entry of l; then of the entry at any index
---   samples-low, samples-high      a plan code has 1 sample at least, and mostSamples at most
+--   samples-high      a plan code has mostSamples at most
 --   samples-most           so at most mostSamples, whatever the number
 --
 -- Assumes nothing.
@@ -12,8 +12,8 @@ use mathlib.Core.List.{List, [], _∷_}
 use Prim.Native.Nat.{ℕ, zero, suc, _-_, _≤_, _<_}
 use native.Mathlib.Nat.{eq-zero-or-pos}
 use native.Mathlib.Omega.{arith}
-use borrow.Author.Tests.{ltb-true, leb-true}
-use lib.Dec.{ltb, leb}
+use borrow.Author.Tests.{leb-true}
+use lib.Dec.{leb}
 use lib.ListN.{length, getD, List·getD-eq-default}
 use Rattle.rules.specs.Numbers.{mostSamples, sampleCounts, plans, samples}
 use Rattle.rules.specs.Tests.{and-true}
@@ -26,9 +26,6 @@ pub every-at : (f : ℕ → Bool) (l : List ℕ) → every f l ≡ true → (i :
 every-at f [] e i h = absurd (omega arith)
 every-at f (x ∷ l) e zero h = and-true (f x) (every f l) e .0
 every-at f (x ∷ l) e (suc i) h = every-at f l (and-true (f x) (every f l) e .1) i (omega arith)
-
-pub samples-low : (plan : ℕ) → plan < plans → 0 < samples plan
-samples-low plan h = ltb-true 0 (samples plan) (every-at (ltb 0) sampleCounts refl plan h)
 
 pub samples-high : (plan : ℕ) → plan < plans → samples plan ≤ mostSamples
 samples-high plan h = leb-true (samples plan) mostSamples (every-at (λ m. leb m mostSamples) sampleCounts refl plan h)

@@ -1,1 +1,2 @@
+-- What the comparison of two calls shows: Same.
 pub mod Same

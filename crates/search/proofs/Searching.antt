@@ -7,7 +7,7 @@
 --   difference-passes      a difference passes the last check
 --   difference-behind      and is behind every solution of the system
 --   difference-meets       which there is
---   none-found, pair-found so what is found, or that nothing is, holds for every size whose degrees are given
+--   none-found, pair-found  so what is found, or that nothing is, holds for every size whose degrees are given
 --
 -- Assumes nothing.
 use mathlib.Core.Path.{_≡_, sym, ap, subst, _∙_}

@@ -27,7 +27,7 @@ use Rattle.search.specs.Method.{set-roots, set-degree}
 use Rattle.lowest_terms.specs.Divided.{Divided}
 use Rattle.algebra.specs.Decided.{Decides}
 use Rattle.verdict.specs.Checked.{NewTo, Agrees, Checked}
-use Rattle.search.specs.Search.{Roots, Judged, Sifted}
+use Rattle.search.specs.Search.{RootsPass, Judged, Sifted}
 open Field 𝓕 using (ring as 𝓡)
 
 size : {C : ℕ → Type 0} {p out out′ : List ℕ} {n : ℕ} → Among C p out out′ n → length (take n out′) ≡ n
@@ -49,7 +49,7 @@ module _ (C : ℕ → Type 0) (keyed : (k : ℕ) → C k → LegalKey k) (p out 
 module _ (m : ℕ) (b v home top bottom out out′ ours ours′ : List ℕ) (t o : ℕ) (home-keys : Keys home)
     (theirs-found : Among LegalKey top out out′ t) (ours-found : Among (λ k. k ∈ home) bottom ours ours′ o)
     (monic-t : Monic 𝓡 (length top - 1) (poly top)) (monic-b : Monic 𝓡 (length bottom - 1) (poly bottom)) where
-  passed : Checked m b v home (take t out′) (take o ours′) (length top - 1) (length bottom - 1) → Roots m b v home top bottom out′ ours′ t o
+  passed : Checked m b v home (take t out′) (take o ours′) (length top - 1) (length bottom - 1) → RootsPass m b v home top bottom out′ ours′ t o
   passed c = record {
     theirs-room = omega (arith, theirs-found .len, theirs-found .room);
     ours-room = omega (arith, ours-found .len, ours-found .room);

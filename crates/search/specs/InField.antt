@@ -1,5 +1,6 @@
 -- A difference in the field, where the argument of reconciliation stands.
 --
+--   Small l, keys-small    the numbers of l are below p; those of a list of keys are
 --   res-inj, mem-res, res-mem, distinct-res    keys are as different in the field as they are as numbers
 --   Good m v               the first m values are 1 to p − 1, as in a well-formed sketch
 --   samples-of             points, values and home as the argument wants them

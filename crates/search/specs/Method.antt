@@ -1,7 +1,8 @@
 -- Why the method finds a difference wherever there is one: if theirs and ours are a difference then the linear system has a solution,
 -- and every solution, divided by the greatest common divisor, has theirs and ours for its roots.
 --
---   degrees                what the two degrees are to the counts of a difference
+--   Degrees m n h t o      t and o are below the two degrees by the same number, and the first degree and o are together at most m
+--   degrees                so it is with the counts of a difference
 --   rowAt                  the equation at a sample point
 --   solvable               a difference makes the system solvable
 --   decoded                what is found, divided out, are the polynomials of theirs and ours

@@ -1,9 +1,12 @@
 -- What the search for a difference answers: the divided pair of a solution, its roots, and the last check.
 --
 --   Passes                 two lists of keys, the one new to home and the other held there, that agree with the values
---   Judged                 the roots of a divided pair pass, as many as its degrees say; or no lists of which it is the χ pass
+--   RootsPass              lists in the first numbers of two areas pass, as many as the degrees of top and bottom say
+--   Judged                 the roots of a divided pair pass, as many as its degrees say; or no two lists pass whose χ the pair is
 --   Behind p q T O         theirs T and ours O are the sets behind the fraction p / q: however it is reduced, χ_T and χ_O are left
---   Sifted                 such lists, with counts that go with the degrees of p and q; or none that pass are behind p / q
+--   Listed                 lists in the first numbers of two areas pass, with counts that are below the degrees of p and q by the same number
+--   Sifted                 such lists; or none that pass are behind p / q
+--   Found                  lists in the first numbers of two areas are a difference
 --   Searched               a difference, or there is none
 --   Finding                the same, for every size whose degrees are given
 --
@@ -38,7 +41,7 @@ pub record Passes (m : ℕ) (b v home T O : List ℕ) : Type 0 where
   pub agrees : Agrees m b v T O
 
 -- lists in the first numbers of two areas that pass, one fewer than top and bottom have coefficients
-pub record Roots (m : ℕ) (b v home top bottom theirs ours : List ℕ) (t o : ℕ) : Type 0 where
+pub record RootsPass (m : ℕ) (b v home top bottom theirs ours : List ℕ) (t o : ℕ) : Type 0 where
   pub theirs-room : t ≤ length theirs
   pub ours-room : o ≤ length ours
   pub passes : Passes m b v home (take t theirs) (take o ours)
@@ -46,7 +49,7 @@ pub record Roots (m : ℕ) (b v home top bottom theirs ours : List ℕ) (t o : �
   pub ours-degree : suc o ≡ length bottom
 
 abbrev pub Judged : (m : ℕ) (b v home top bottom theirs ours : List ℕ) (found : Bool) (t o : ℕ) → Type 0
-Judged m b v home top bottom theirs ours true t o = Roots m b v home top bottom theirs ours t o
+Judged m b v home top bottom theirs ours true t o = RootsPass m b v home top bottom theirs ours t o
 Judged m b v home top bottom theirs ours false t o = (T O : List ℕ) → Passes m b v home T O → coeff 𝓡 (poly top) ≡ χ 𝓕 (map res T) → coeff 𝓡 (poly bottom) ≡ χ 𝓕 (map res O) → ⊥
 
 abbrev pub Behind : (p q T O : List ℕ) → Type 0

@@ -49,7 +49,7 @@ pub struct Header {
     pub size: u32,
 }
 
-// The values, or what is wrong with the first bad one; then no values.
+// The values, or what is wrong: the first bad value, or the padding; then no values.
 pub struct Body {
     pub answer: Answer,
     pub values: [u32; rules::MOST_SAMPLES],
@@ -98,7 +98,7 @@ fn rest_at(message: &[u8], at: usize) -> u32
     field_at(message, at, 8 * message.len() - at)
 }
 
-// The same, and the padding behind them.
+// The m values, and the padding behind them.
 fn body_at(message: &[u8], at: usize, m: usize) -> Body
     requires { ⌜ (at ≡ valueAt 0) × (m ≤ mostSamples) × (length (now message) ≡ messageLength m) ⌝ }
     ensures { λ r. ⌜ BodyOf (now (message .entry)) m r ⌝ }

@@ -4,6 +4,7 @@
 --   lastTest change        "14", or "15"
 --   malformed, large, passed       what an update answers, by the first test that holds
 --   full, room, empty, some        what the last test answers, by the size
+--   may-change             a size that passes the last test allows the change
 --   Accepted change s k    a well-formed sketch, a legal key, and a size that allows the change
 --   accepted, updates      an update succeeds exactly where it is accepted
 --   gives, changes         what comes with an answer; where it is accepted, the sketch after the change

@@ -1,6 +1,5 @@
 // The last check: what was found is held against the definition of a difference.
 use residue::Residue;
-ghost use mathlib.Core.Path.{_≡_};
 ghost use Prim.Native.Nat.{_≤_};
 ghost use lib.ListN.{length};
 ghost use Rattle.algebra.specs.Sets.{Ascending};

@@ -2,7 +2,7 @@
 --
 --   Outcome plan keys message number after     list to message over keys returns `number` and leaves `after`
 --   unsketched, written    where the sketch is refused; where it is not
---   too-long               the list of a sketch that has more keys than may be is refused by 2
+--   too-long               a list of more keys than may be is refused by 2
 --   given-small, length-small      a written length has 16 bits
 --   cut                    a list cut to one key more than may be has the outcome of the list
 --   uneven-list, taken-list    the entry's own refusal; where there is none, the outcome of the keys that were taken is the entry's

@@ -1,6 +1,6 @@
 -- Reconcile is called with the first keys of home and with buffers of its own; what that says of all of home's keys and of the caller's buffers.
 --
---   Lent s home theirs ours h t o      h is home cut to one key more than may be; t and o have room as theirs and ours have, up to the largest m
+--   Lent home theirs ours h t o        h is home cut to one key more than may be; t and o have room as theirs and ours have, up to the largest m
 --   tests-same             the tests answer alike
 --   widened, widen         the outcome with the caller's buffers, and that it is one
 --

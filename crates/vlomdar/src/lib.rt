@@ -47,8 +47,8 @@ pub extern "C" fn vlomdar_sketch(plan: u32, list: &[u8], message: &mut [u8]) -> 
     to_message(plan, &keys[..count], ascending, message)
 }
 
-// The difference of a sketch and a home list, in the first bytes of two buffers. A plan has at most as many samples as the two arrays hold, so that shorter
-// parts of them than the buffers have room for are refused alike; a refusal counts no key, so that no byte is put.
+// The difference of a sketch and a home list, in the first bytes of two buffers. Each array is cut to the room of its buffer, at most 64 keys; no plan
+// has more samples, so a short buffer is refused as it would be itself. A refusal counts no key, so nothing is written.
 fn to_lists(s: Sketch, home: &[u8], theirs: &mut [u8], ours: &mut [u8]) -> u64
     ensures { λ r. ⌜ ReconcilesKeys s (now (home .entry)) (now (theirs .entry)) (now (ours .entry)) (record { number = r; theirs = now (theirs .exit); ours = now (ours .exit) }) ⌝ }
 {
