@@ -30,7 +30,7 @@ use Rattle.rules.specs.Reconciling.{DifferenceOf, Left, After, Reconciles}
 use Rattle.rules.specs.declared.Answer.the-variants.{Done}
 use Rattle.gap.specs.Gap.{eq-gap}
 use Rattle.reconcile.specs.Passing.{Passing, passes-tests}
-use Rattle.sketch.specs.Formed.{sketch-formed}
+use Rattle.sketch.specs.Formed.{legal-formed}
 use Rattle.message.specs.RoundTrip.{read-message, one-message}
 use Rattle.promises.specs.Unique.{one-difference-of}
 
@@ -90,9 +90,6 @@ pub record Within (plan : ℕ) (A B : List ℕ) : Type 0 where
   pub second : LegalList B
   pub bound : length (A ∖ B) + length (B ∖ A) ≤ samples plan
 
-formed-of : (plan : ℕ) (A : List ℕ) → plan < plans → LegalList A → WellFormed (sketchOf plan A)
-formed-of plan A p h = sketch-formed plan A p (h .keys .legal) (h .short)
-
 pub demand-3-sketch : (plan : ℕ) (A B theirs ours : List ℕ) (left : Left) → Within plan A B → samples plan ≤ length theirs → samples plan ≤ length ours
     → Reconciles (sketchOf plan A) B theirs ours left → Tells A B theirs ours left
 unfolding Reconciles
@@ -103,7 +100,7 @@ demand-3-sketch plan A B theirs ours left w rt ro r = go (subst (λ t. After t (
 
     passing : Passing (sketchOf plan A) B (length theirs) (length ours)
     passing = record {
-      whole = formed-of plan A (w .known) (w .first);
+      whole = legal-formed plan A (w .known) (w .first);
       listed = w .second;
       theirs-room = rt;
       ours-room = ro;
@@ -122,12 +119,12 @@ demand-3-sketch plan A B theirs ours left w rt ro r = go (subst (λ t. After t (
     }
       where
         e : (f .new ≡ A ∖ B) × (f .held ≡ B ∖ A)
-        e = one-difference-of (sketchOf plan A) B (f .new) (f .held) (A ∖ B) (B ∖ A) (formed-of plan A (w .known) (w .first)) (w .second .keys) (f .difference) d
+        e = one-difference-of (sketchOf plan A) B (f .new) (f .held) (A ∖ B) (B ∖ A) (legal-formed plan A (w .known) (w .first)) (w .second .keys) (f .difference) d
 
 pub demand-3 : (plan : ℕ) (A B theirs ours : List ℕ) (left : Left) → Within plan A B → samples plan ≤ length theirs → samples plan ≤ length ours
     → Reconciles (readResult (message (sketchOf plan A))) B theirs ours left → Tells A B theirs ours left
 demand-3 plan A B theirs ours left w rt ro r =
-    demand-3-sketch plan A B theirs ours left w rt ro (subst (λ s. Reconciles s B theirs ours left) (read-message (sketchOf plan A) (formed-of plan A (w .known) (w .first)) .gives) r)
+    demand-3-sketch plan A B theirs ours left w rt ro (subst (λ s. Reconciles s B theirs ours left) (read-message (sketchOf plan A) (legal-formed plan A (w .known) (w .first)) .gives) r)
 
 -- a set within B's reach is B without ours and with theirs, so two with one difference are one set
 rebuilt : (A₁ A₂ B : List ℕ) → A₁ ∖ B ≡ A₂ ∖ B → B ∖ A₁ ≡ B ∖ A₂ → A₁ ⊆ A₂
@@ -143,10 +140,10 @@ pub demand-3-apart : (plan : ℕ) (A₁ A₂ B : List ℕ) → Within plan A₁ 
 demand-3-apart plan A₁ A₂ B w₁ w₂ m = ascending-ext A₁ A₂ (w₁ .first .keys .ascending) (w₂ .first .keys .ascending) (rebuilt A₁ A₂ B (e .0) (e .1)) (rebuilt A₂ A₁ B (sym (e .0)) (sym (e .1)))
   where
     f₁ : WellFormed (sketchOf plan A₁)
-    f₁ = formed-of plan A₁ (w₁ .known) (w₁ .first)
+    f₁ = legal-formed plan A₁ (w₁ .known) (w₁ .first)
 
     same : sketchOf plan A₁ ≡ sketchOf plan A₂
-    same = one-message (sketchOf plan A₁) (sketchOf plan A₂) f₁ (formed-of plan A₂ (w₂ .known) (w₂ .first)) m
+    same = one-message (sketchOf plan A₁) (sketchOf plan A₂) f₁ (legal-formed plan A₂ (w₂ .known) (w₂ .first)) m
 
     e : (A₁ ∖ B ≡ A₂ ∖ B) × (B ∖ A₁ ≡ B ∖ A₂)
     e = one-difference-of (sketchOf plan A₁) B (A₁ ∖ B) (B ∖ A₁) (A₂ ∖ B) (B ∖ A₂) f₁ (w₁ .second .keys)

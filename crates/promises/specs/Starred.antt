@@ -32,7 +32,8 @@ use Rattle.rules.specs.Reconciling.{None}
 use Rattle.gap.specs.Gap.{gap-eq}
 use Rattle.residue.specs.Field.{Fp, 𝓕, res, zero-is, one-is, eq-zero-res}
 use Rattle.interpolation.specs.Interpolated.{sampleAt}
-use Rattle.search.specs.InField.{Small, keys-small, res-inj, difference-fits}
+use Rattle.residue.specs.Members.{Small, res-inj}
+use Rattle.search.specs.InField.{keys-small, difference-fits}
 use Rattle.promises.specs.Claims.{Claim, value-is, message-is, values-are, list-refused, tells, refuses-13, Holds, Ready, told-holds, none-holds, All, none, _also_, below, no-key}
 open Field 𝓕 using (ring as 𝓡)
 open CRing 𝓡 using (add, mul, zero as 𝟘, one as 𝟙, neg)

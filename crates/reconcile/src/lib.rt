@@ -59,13 +59,11 @@ pub fn reconcile_told(
             ours: 0,
         };
     }
-    let plan = s.plan;
-    let size = s.size;
-    let m = plan::samples(plan);
+    let m = plan::samples(s.plan);
     let v = s.values;
     let mut new = [0u32; rules::MOST_SAMPLES];
     let mut held = [0u32; rules::MOST_SAMPLES];
-    let counts = search::search(m, size, &v, home, &mut new, &mut held);
+    let counts = search::search(m, s.size, &v, home, &mut new, &mut held);
     if !counts.found {
         return Reconciled {
             answer: Answer::Refused(Refusal::NoDifference),
@@ -73,14 +71,12 @@ pub fn reconcile_told(
             ours: 0,
         };
     }
-    let t = counts.theirs;
-    let o = counts.ours;
-    area::copy(theirs, &new[..t]);
-    area::copy(ours, &held[..o]);
+    area::copy(theirs, &new[..counts.theirs]);
+    area::copy(ours, &held[..counts.ours]);
     Reconciled {
         answer: Answer::Done,
-        theirs: t,
-        ours: o,
+        theirs: counts.theirs,
+        ours: counts.ours,
     }
 }
 
