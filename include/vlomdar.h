@@ -68,7 +68,7 @@ enum vlomdar_refusal {
     VLOMDAR_LARGE_KEY = 3,        /* key above 65,472; place: its index in the list, in keys */
     VLOMDAR_UNORDERED_KEY = 4,    /* key not above the one before it; place: its index in the list, in keys */
     VLOMDAR_SHORT_BUFFER = 5,     /* a list buffer's length is no multiple of 4, or a buffer is too short; place: see each call */
-    VLOMDAR_MALFORMED_SKETCH = 6, /* given by neither call: what they work on is well formed by then */
+    VLOMDAR_MALFORMED_SKETCH = 6, /* given by neither call: what they work on is well-formed by then */
     VLOMDAR_WRONG_LENGTH = 7,     /* message empty, or not of its plan's length */
     VLOMDAR_UNKNOWN_VERSION = 8,  /* message of a version other than 1 */
     VLOMDAR_LARGE_SIZE = 9,       /* message that says a list of more than 16,384 keys */

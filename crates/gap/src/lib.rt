@@ -2,11 +2,10 @@
 //
 // Never a subtraction of unsigned lengths: home may be the larger side as well as the smaller.
 ghost use mathlib.Core.Path.{_≡_};
-ghost use mathlib.Core.Bool.{_||_};
 ghost use Prim.Native.Nat.{_+_, _≤_};
-ghost use lib.IntN.{pos, negℤ, subℕ};
-ghost use lib.Signed.{ltZ};
+ghost use lib.IntN.{subℕ};
 ghost use Rattle.rules.specs.Numbers.{mostSamples, listLimit};
+ghost use Rattle.rules.specs.Differences.{outside};
 ghost use Rattle.gap.specs.Gap.{degreeOf};
 
 // How much larger a set of n keys is than one of `count`.
@@ -20,7 +19,7 @@ pub fn gap(n: usize, count: usize) -> i32
 // Refusal 12: whether the gap is below −m or above m.
 pub fn too_large(m: usize, n: usize, count: usize) -> bool
     requires { ⌜ (m ≤ mostSamples) × (n ≤ listLimit) × (count ≤ listLimit) ⌝ }
-    ensures { λ r. ⌜ r ≡ (ltZ (subℕ n count) (negℤ (pos m)) || ltZ (pos m) (subℕ n count)) ⌝ }
+    ensures { λ r. ⌜ r ≡ outside m (subℕ n count) ⌝ }
 {
     let d = gap(n, count);
     let most = m as i32;

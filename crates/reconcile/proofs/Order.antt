@@ -5,15 +5,13 @@
 --
 -- Assumes nothing.
 use mathlib.Core.Path.{_≡_}
-use mathlib.Core.Bool.{true, false, _||_}
+use mathlib.Core.Bool.{true, false}
 use mathlib.Core.List.{List}
 use Prim.Native.Nat.{ℕ}
 use lib.Dec.{ltb}
-use lib.IntN.{pos, negℤ}
-use lib.Signed.{ltZ}
 use Rattle.rules.specs.Numbers.{samples}
 use Rattle.rules.specs.Sketches.{wellFormed}
-use Rattle.rules.specs.Differences.{gapOf}
+use Rattle.rules.specs.Differences.{gapOf, outside}
 use Rattle.rules.specs.Calls.{listAnswer, reconcileTests}
 use Rattle.rules.specs.declared.Sketch.{Sketch}
 use Rattle.rules.specs.declared.Refusal.{Refusal}
@@ -41,10 +39,10 @@ module _ (s : Sketch) (home : List ℕ) (theirs ours : ℕ) where
         short-ours o = rw (w, l, t, o)
 
         module _ (o : ltb ours (samples (s .plan)) ≡ false) where
-          pub large-gap : (ltZ (gapOf (s .size) home) (negℤ (pos (samples (s .plan)))) || ltZ (pos (samples (s .plan))) (gapOf (s .size) home)) ≡ true → Refused LargeGap ≡ reconcileTests s home theirs ours
+          pub large-gap : (outside (samples (s .plan)) (gapOf (s .size) home)) ≡ true → Refused LargeGap ≡ reconcileTests s home theirs ours
           unfolding reconcileTests
           large-gap g = rw (w, l, t, o, g)
 
-          pub passed : (ltZ (gapOf (s .size) home) (negℤ (pos (samples (s .plan)))) || ltZ (pos (samples (s .plan))) (gapOf (s .size) home)) ≡ false → Done ≡ reconcileTests s home theirs ours
+          pub passed : (outside (samples (s .plan)) (gapOf (s .size) home)) ≡ false → Done ≡ reconcileTests s home theirs ours
           unfolding reconcileTests
           passed g = rw (w, l, t, o, g)

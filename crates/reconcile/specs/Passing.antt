@@ -5,7 +5,7 @@
 --
 -- Assumes nothing.
 use mathlib.Core.Path.{_≡_, sym, ap, _∙_}
-use mathlib.Core.Bool.{Bool, not, _||_}
+use mathlib.Core.Bool.{Bool, not}
 use mathlib.Core.List.{List}
 use Prim.Native.Nat.{ℕ, _+_, _≤_}
 use borrow.Author.Tests.{ltb-false, le-ltb, not-false}
@@ -17,7 +17,7 @@ use Rattle.rules.specs.Numbers.{samples, LegalList}
 use Rattle.rules.specs.Sketches.{WellFormed, wellFormed}
 use Rattle.rules.specs.Formed.{formed, tested}
 use Rattle.rules.specs.Legal.{legal, passes}
-use Rattle.rules.specs.Differences.{gapOf}
+use Rattle.rules.specs.Differences.{gapOf, outside}
 use Rattle.rules.specs.Refusals.{when, _then_}
 use Rattle.rules.specs.Calls.{listAnswer, reconcileTests}
 use Rattle.rules.specs.Tests.{when-done, then-done, done-when, done-then, or-false, false-or}
@@ -41,7 +41,7 @@ module _ (s : Sketch) (home : List ℕ) (theirs ours : ℕ) where
   m = samples (s .plan)
 
   abbrev gap-test : Bool
-  gap-test = ltZ (gapOf (s .size) home) (negℤ (pos m)) || ltZ (pos m) (gapOf (s .size) home)
+  gap-test = outside m (gapOf (s .size) home)
 
   abbrev from-gap : Answer
   from-gap = when gap-test LargeGap

@@ -16,13 +16,11 @@ use mathlib.Core.Bool.{not, _||_}
 use mathlib.Core.List.{List, [], _∷_, _++_}
 use Prim.Native.Nat.{ℕ, zero, suc, _*_, _-_}
 use lib.Dec.{ltb, leb, eqb}
-use lib.IntN.{pos, negℤ}
 use lib.ListN.{length, drop}
-use lib.Signed.{ltZ}
 use Rattle.rules.specs.Numbers.{modulus, keyLimit, listLimit, samples, planOf, unknownPlan}
 use Rattle.rules.specs.Sketches.{slots, sketchOf, wellFormed, blank, withKey, withoutKey}
 use Rattle.rules.specs.Messages.{version, versionWidth, planWidth, planAt, sizeWidth, sizeAt, valueWidth, valueAt, messageLength, message, fieldAt}
-use Rattle.rules.specs.Differences.{gapOf}
+use Rattle.rules.specs.Differences.{gapOf, outside}
 use Rattle.rules.specs.Refusals.{when, _then_, given}
 use Rattle.rules.specs.declared.Sketch.{Sketch}
 use Rattle.rules.specs.declared.Refusal.the-variants.{UnknownPlan, LongList, LargeKey, UnorderedKey, ShortBuffer, MalformedSketch, WrongLength, UnknownVersion, LargeSize, BadValue, PaddingSet, LargeGap, FullSketch, EmptySketch}
@@ -115,4 +113,4 @@ reconcileTests s home theirs ours =
     then listAnswer home
     then when (ltb theirs (samples (s .plan))) (ShortBuffer 0)
     then when (ltb ours (samples (s .plan))) (ShortBuffer 1)
-    then when (ltZ (gapOf (s .size) home) (negℤ (pos (samples (s .plan)))) || ltZ (pos (samples (s .plan))) (gapOf (s .size) home)) LargeGap
+    then when (outside (samples (s .plan)) (gapOf (s .size) home)) LargeGap

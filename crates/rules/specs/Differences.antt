@@ -1,13 +1,16 @@
 -- Document 01, "What a difference is".
 --
 --   gapOf n home                       the size gap d = n − count of home, an integer of either sign
+--   outside m d                        "d below −m or above m"
 --   Difference m n v home theirs ours  theirs and ours are a difference of home and a sketch of size n with values v at m points
 --
 -- Assumes nothing.
 use mathlib.Core.Path.{_≡_}
+use mathlib.Core.Bool.{Bool, _||_}
 use mathlib.Core.List.{List}
 use Prim.Native.Nat.{ℕ, suc, _+_, _≤_, _<_}
-use lib.IntN.{ℤ, subℕ}
+use lib.IntN.{ℤ, pos, negℤ, subℕ}
+use lib.Signed.{ltZ}
 use lib.ListN.{length, getD}
 use Rattle.algebra.specs.Arithmetic.{mulOf}
 use Rattle.algebra.specs.Sets.{_∈_}
@@ -16,6 +19,9 @@ use Rattle.rules.specs.Sketches.{value}
 
 abbrev pub gapOf : ℕ → List ℕ → ℤ
 gapOf n home = subℕ n (length home)
+
+abbrev pub outside : ℕ → ℤ → Bool
+outside m d = ltZ d (negℤ (pos m)) || ltZ (pos m) d
 
 -- "a difference is two ascending lists of legal keys: theirs and ours, where"
 pub record Difference (m n : ℕ) (v home theirs ours : List ℕ) : Type 0 where

@@ -17,17 +17,15 @@ use mathlib.Core.List.{List, [], _∷_}
 use Prim.Native.Nat.{ℕ, zero, suc, _+_, _*_, _/_, _%_, _^_, _≤_, _<_}
 use native.Mathlib.Omega.{arith}
 use lib.Dec.{ltb, leb, eqb, lit<}
-use lib.IntN.{pos, negℤ}
 use lib.ListN.{length, getD}
 use lib.Seq.{ext-getD}
-use lib.Signed.{ltZ}
 use borrow.Author.Tests.{ltb-false}
 use Rattle.algebra.specs.Tabulate.{tabulate-length, tabulate-at}
 use Rattle.rules.specs.Numbers.{modulus, keyLimit, listLimit, samples, planOf, unknownPlan, mostSamples}
 use Rattle.rules.specs.Plans.{samples-most}
 use Rattle.rules.specs.Sketches.{sketchOf, wellFormed}
 use Rattle.rules.specs.Messages.{version, versionWidth, messageLength, fieldAt}
-use Rattle.rules.specs.Differences.{gapOf}
+use Rattle.rules.specs.Differences.{gapOf, outside}
 use Rattle.rules.specs.Refusals.{numberOf, placeOf, placeOfRefusal, when, _then_}
 use Rattle.rules.specs.Calls.{keysAnswer, listAnswer, sketchAnswer, writeAnswer, messagePlan, messageSamples, messageSize, messageValue, messagePadding, valuesAnswer, readAnswer, reconcileTests}
 use Rattle.rules.specs.Entries.{keyBytes, keyAt, keysOf, byteOf, bytesOf, uneven, toMessageAnswer, sketchEntryAnswer, packed, numberIn, placeIn, firstIn, secondIn}
@@ -165,7 +163,7 @@ small-reconcile s home theirs ours =
     no-ours = ltb ours (samples (s .plan))
 
     far : Bool
-    far = ltZ (gapOf (s .size) home) (negℤ (pos (samples (s .plan)))) || ltZ (pos (samples (s .plan))) (gapOf (s .size) home)
+    far = outside (samples (s .plan)) (gapOf (s .size) home)
 
     rest : Answer
     rest = when no-theirs (ShortBuffer 0) then when no-ours (ShortBuffer 1) then when far LargeGap

@@ -1,6 +1,6 @@
 // What document 01 speaks of: a sketch, and the answers that a call can give. The meaning of all this stands in specs/, in the order and the words of that document.
 
-// The numbers of document 01 that code tests against, each of which stands here alone, as it does in specs/Numbers for the proofs.
+// The numbers of document 01 that several crates test against, as they stand in specs/Numbers for the proofs.
 pub const KEY_LIMIT: u32 = 65472;
 
 pub const LIST_LIMIT: u32 = 16384;

@@ -1,16 +1,14 @@
 -- `reconcile::tests` meets its contract: each way out answers what the tests on it say. Assumes nothing.
 use mathlib.Core.Path.{_≡_, sym, ap, _∙_}
-use mathlib.Core.Bool.{Bool, true, false, _||_}
+use mathlib.Core.Bool.{Bool, true, false}
 use Prim.Native.Nat.{ℕ}
 use native.Mathlib.Omega.{arith}
 use borrow.Author.Needs.{needs}
 use borrow.Author.Tests.{not-true, not-false, lt-ltb, le-ltb}
 use lib.Dec.{ltb}
-use lib.IntN.{pos, negℤ}
-use lib.Signed.{ltZ}
 use Rattle.rules.specs.Numbers.{samples}
 use Rattle.rules.specs.Sketches.{wellFormed}
-use Rattle.rules.specs.Differences.{gapOf}
+use Rattle.rules.specs.Differences.{gapOf, outside}
 use Rattle.rules.specs.Calls.{listAnswer}
 use Rattle.rules.specs.declared.Answer.the-variants.{Done}
 use Rattle.rules.specs.Formed.{formed}
@@ -77,11 +75,10 @@ too-large-requires c κs =
     (omega arith, formed (a .s) (whole (c .before .before)) .size, legal (a .home .now) (listed (c .before .before)) .short)
 
 -- what the test of the gap says, of the plan's samples
-gap-test : (c : tie.After-too-large) → c .too-large .result ≡ (ltZ (gapOf (c .before .before .before .before .before .before .before .before .before .before .args .s .size) (c .before .before .before .before .before .before .before .before .before .before .args .home .now)) (negℤ (pos (samples (c .before .before .before .before .before .before .before .before .before .before .args .s .plan)))) || ltZ (pos (samples (c .before .before .before .before .before .before .before .before .before .before .args .s .plan))) (gapOf (c .before .before .before .before .before .before .before .before .before .before .args .s .size) (c .before .before .before .before .before .before .before .before .before .before .args .home .now)))
+gap-test : (c : tie.After-too-large) → let a = c .before .before .before .before .before .before .before .before .before .before .args in c .too-large .result ≡ outside (samples (a .s .plan)) (gapOf (a .s .size) (a .home .now))
 gap-test c =
     let a = c .before .before .before .before .before .before .before .before .before .before .args in
-    let d = gapOf (a .s .size) (a .home .now) in
-    c .too-large .ensures ∙ ap (λ (m : ℕ). ltZ d (negℤ (pos m)) || ltZ (pos m) d) (c .before .before .before .samples .ensures)
+    c .too-large .ensures ∙ ap (λ (m : ℕ). outside m (gapOf (a .s .size) (a .home .now))) (c .before .before .before .samples .ensures)
 
 returns-5 : tie.Need-returns-5
 returns-5 c =
