@@ -6,7 +6,7 @@ ghost use Rattle.algebra.specs.Polynomial.{Monic};
 ghost use Rattle.rules.specs.Numbers.{mostSamples, listLimit, LegalList};
 ghost use Rattle.polynomial.specs.Coefficients.{𝓡, poly};
 ghost use Rattle.search.specs.InField.{Good};
-ghost use Rattle.search.specs.Search.{Judged, Sifted, Finding, Searched};
+ghost use Rattle.search.specs.Search.{Judged, Finding, Searched};
 
 // Whether a difference was found, and how many keys it has on each side.
 pub struct Counts {
@@ -44,31 +44,7 @@ fn judge(
     }
 }
 
-// The pair p / q in lowest terms, top over bottom, judged.
-fn sift(
-    m: usize,
-    b: &[u32],
-    v: &[u32],
-    home: &[u32],
-    p: &mut [u32],
-    q: &mut [u32],
-    top: &mut [u32],
-    bottom: &mut [u32],
-    theirs: &mut [u32],
-    ours: &mut [u32],
-) -> Counts
-    requires { ⌜ (m ≤ mostSamples) × (m ≤ length (now b)) × (m ≤ length (now v)) × LegalList (now home) × Monic 𝓡 (length (now p) - 1) (poly (now p)) × Monic 𝓡 (length (now q) - 1) (poly (now q)) × (length (now p) ≤ mostSamples + 1) × (length (now q) ≤ mostSamples + 1) × (length (now top) ≡ length (now p)) × (length (now bottom) ≡ length (now q)) × (length (now theirs) ≡ mostSamples) × (length (now ours) ≡ mostSamples) ⌝ }
-    ensures { λ r. ⌜ Sifted m (now (b .entry)) (now (v .entry)) (now (home .entry)) (now (p .entry)) (now (q .entry)) (now (theirs .exit)) (now (ours .exit)) (r .found) (r .theirs) (r .ours) ⌝ }
-{
-    let p_all = p.len();
-    let q_all = q.len();
-    let k = lowest_terms::divided(p, q, top, bottom);
-    let p_end = p_all - k;
-    let q_end = q_all - k;
-    judge(m, b, v, home, &top[..p_end], &bottom[..q_end], theirs, ours)
-}
-
-// The two polynomials, if there are any, sifted. Their degrees are the lengths of the areas p and q, less one.
+// The two polynomials, if there are any, in lowest terms, judged. Their degrees are the lengths of the areas p and q, less one.
 fn find(
     m: usize,
     v: &[u32],
@@ -91,7 +67,21 @@ fn find(
             ours: 0,
         };
     }
-    sift(m, &b, v, home, p, q, top, bottom, theirs, ours)
+    let p_all = p.len();
+    let q_all = q.len();
+    let k = lowest_terms::divided(p, q, top, bottom);
+    let p_end = p_all - k;
+    let q_end = q_all - k;
+    judge(
+        m,
+        &b,
+        v,
+        home,
+        &top[..p_end],
+        &bottom[..q_end],
+        theirs,
+        ours,
+    )
 }
 
 // The difference of home and a sketch of `size` keys with values v, in the first numbers of theirs and ours, or that there is none. All work areas are
