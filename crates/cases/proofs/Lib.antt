@@ -1,2 +1,2 @@
--- What the calls give fits the buffers: Room.
+-- How long a sketch is: Room.
 pub mod Room

@@ -7,10 +7,8 @@ ghost use mathlib.Core.List.{_∷_};
 ghost use Prim.Native.Nat.{_+_, _≤_, _<_};
 ghost use lib.ListN.{length, take, replicate};
 ghost use Rattle.rules.specs.Refusals.{numberOf};
+ghost use Rattle.rules.specs.Messages.{longestMessage};
 ghost use Rattle.rules.specs.Calls.{sketchAnswer, sketchResult, writeLength, writeBuffer, readResult};
-
-// Room for the longest message, that of 64 values.
-const ROOM: usize = 139;
 
 // Room for a difference of 64 samples.
 const KEYS: usize = rules::MOST_SAMPLES;
@@ -57,10 +55,10 @@ fn print_refusal(answer: Answer) -> u32
 
 // The message of a list's sketch; answers its length.
 fn message_case(label: &[u8], plan: u32, keys: &[u32]) -> usize
-    ensures { λ r. ⌜ r ≡ writeLength (sketchResult plan (now (keys .entry))) 139 ⌝ }
+    ensures { λ r. ⌜ r ≡ writeLength (sketchResult plan (now (keys .entry))) longestMessage ⌝ }
 {
     let made = sketch::sketch(plan, keys);
-    let mut buffer = [0u8; ROOM];
+    let mut buffer = [0u8; rules::LONGEST_MESSAGE];
     let written = message::write(made.sketch, &mut buffer);
     let n = written.length;
     io::write_all(STDOUT_FILENO, label);
@@ -90,9 +88,9 @@ fn values_case(label: &[u8], plan: u32, keys: &[u32]) -> Answer
 
 // What the other side reads of a sketch that is written.
 fn sent(s: Sketch) -> Sketch
-    ensures { λ r. ⌜ r ≡ readResult (take (writeLength s 139) (writeBuffer s (replicate 139 0))) ⌝ }
+    ensures { λ r. ⌜ r ≡ readResult (take (writeLength s longestMessage) (writeBuffer s (replicate longestMessage 0))) ⌝ }
 {
-    let mut buffer = [0u8; ROOM];
+    let mut buffer = [0u8; rules::LONGEST_MESSAGE];
     let written = message::write(s, &mut buffer);
     let n = written.length;
     let read = message::read(&buffer[..n]);

@@ -29,7 +29,7 @@ use Rattle.algebra.specs.Power.{fast, fast-power}
 use Rattle.algebra.specs.Tabulate.{tabulate}
 use Rattle.rules.specs.Numbers.{modulus, samples, planOf, unknownPlan}
 use Rattle.rules.specs.Sketches.{sketchOf, wellFormed, blank, withKey, withoutKey}
-use Rattle.rules.specs.Messages.{messageLength, fields, message, fieldAt}
+use Rattle.rules.specs.Messages.{messageLength, longestMessage, fields, message, fieldAt}
 use Rattle.rules.specs.Refusals.{numberOf, placeOf}
 use Rattle.rules.specs.Calls.{listAnswer, sketchAnswer, sketchResult, writeAnswer, writeLength, writeBuffer, readAnswer, readResult, addAnswer, addResult, removeAnswer, removeResult, reconcileTests}
 use Rattle.rules.specs.Entries.{keysOf, bytesOf, packed, toMessageAnswer, sketchEntryAnswer, sketchReturns, sketchLeaves, reconcileEntryTests}
@@ -50,8 +50,8 @@ requests = refl
 pub usual : map planOf (0 ∷ 15 ∷ 255 ∷ []) ≡ 0 ∷ 15 ∷ 8 ∷ []
 usual = refl
 
-pub lengths : map (λ request. messageLength (samples (planOf request))) (0 ∷ 255 ∷ 15 ∷ []) ≡ 5 ∷ 37 ∷ 139 ∷ []
-lengths = refl
+pub lengths : (map (λ request. messageLength (samples (planOf request))) (0 ∷ 255 ∷ 15 ∷ []) ≡ 5 ∷ 37 ∷ 139 ∷ []) × (longestMessage ≡ 139)
+lengths = (refl, refl)
 
 -- case 7's sketch of {3}, m = 2, with its other slots
 pub slots-filled : sketchOf 1 (3 ∷ []) ≡ sketch-2 1 65533 65532

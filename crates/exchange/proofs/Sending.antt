@@ -2,7 +2,6 @@
 --
 --   known, known-plan      a request names a plan exactly where the code that it means is one
 --   taken, accepted        a sketch that is not refused is that of a legal list under a plan, and the other way round
---   short                  no message is longer than the longest
 --   fits, carried          what is written has room, and what is read of it is the sketch
 --   sent, sent-tells, refused, refused-tells       the two outcomes, and what demand 3 says of each
 --
@@ -12,13 +11,13 @@ use mathlib.Core.Bool.{Bool, true, false, cond, not, _&&_}
 use mathlib.Core.List.{List, _++_}
 use Prim.Native.Nat.{ℕ, _+_, _≤_, _<_}
 use native.Mathlib.Omega.{arith}
-use borrow.Author.Tests.{leb-true, ltb-true, lt-ltb}
-use lib.Dec.{ltb, leb, eqb, lit<}
+use borrow.Author.Tests.{ltb-true, lt-ltb}
+use lib.Dec.{ltb, eqb, lit<}
 use lib.ListN.{length, length-append, take, drop}
-use Rattle.rules.specs.Numbers.{plans, samples, sampleCounts, usualRequest, usualPlan, planOf, unknownPlan, LegalList}
-use Rattle.rules.specs.Plans.{every-at}
+use Rattle.rules.specs.Numbers.{plans, samples, usualRequest, usualPlan, planOf, unknownPlan, LegalList}
+use Rattle.rules.specs.Plans.{message-longest}
 use Rattle.rules.specs.Sketches.{sketchOf, blank, WellFormed}
-use Rattle.rules.specs.Messages.{message, messageLength}
+use Rattle.rules.specs.Messages.{message, messageLength, longestMessage}
 use Rattle.rules.specs.Refusals.{when, given}
 use Rattle.rules.specs.Legal.{legal, passes}
 use Rattle.rules.specs.Tests.{when-done, then-done, done-when, done-then, refused-not-done}
@@ -63,9 +62,6 @@ pub accepted : (request : ℕ) (dome : List ℕ) → planOf request < plans → 
 unfolding sketchAnswer
 accepted request dome l h = done-then (when (unknownPlan request) UnknownPlan) (listAnswer dome) (done-when (unknownPlan request) UnknownPlan (known request l)) (passes dome h)
 
-short : (plan : ℕ) → plan < plans → messageLength (samples plan) ≤ 139
-short plan h = leb-true (messageLength (samples plan)) 139 (every-at (λ m. leb (messageLength m) 139) sampleCounts refl plan h)
-
 -- the sketch that a request which is not refused makes
 made : (request : ℕ) (dome : List ℕ) (s : Sketch) → sketchAnswer request dome ≡ Done → s ≡ sketchResult request dome → s ≡ sketchOf (planOf request) dome
 made request dome s e h = h ∙ ap (λ a. given a (sketchOf (planOf request) dome) blank) e
@@ -74,9 +70,9 @@ module _ (request : ℕ) (dome : List ℕ) (s : Sketch) (done : sketchAnswer req
   whole : WellFormed s
   whole = let t = taken request dome done in subst WellFormed (sym (made request dome s done is)) (legal-formed (planOf request) dome (t .0) (t .1))
 
-  module _ (buffer buffer′ : List ℕ) (n : ℕ) (long : length buffer ≡ 139) (length-is : n ≡ writeLength s (length buffer)) (buffer-is : buffer′ ≡ writeBuffer s buffer) where
+  module _ (buffer buffer′ : List ℕ) (n : ℕ) (long : length buffer ≡ longestMessage) (length-is : n ≡ writeLength s (length buffer)) (buffer-is : buffer′ ≡ writeBuffer s buffer) where
     back : (writeAnswer s (length buffer) ≡ Done) × Reads (take (writeLength s (length buffer)) (writeBuffer s buffer)) s
-    back = read-written s whole buffer (omega (arith, short (s .plan) (whole .plan), long))
+    back = read-written s whole buffer (omega (arith, message-longest (s .plan), long))
 
     pub fits : n ≤ length buffer′
     fits =

@@ -7,9 +7,6 @@ ghost use Rattle.rules.specs.Numbers.{planOf, samples};
 ghost use Rattle.promises.specs.Demands.{Within, Tells};
 ghost use Rattle.exchange.specs.Exchanged.{Exchanges, left};
 
-// The longest message, that of plan 15.
-const LONGEST: usize = 139;
-
 pub fn exchange(
     plan: u32,
     dome: &[u32],
@@ -30,7 +27,7 @@ pub fn exchange(
         };
     }
     let s = made.sketch;
-    let mut buffer = [0u8; LONGEST];
+    let mut buffer = [0u8; rules::LONGEST_MESSAGE];
     let written = message::write(s, &mut buffer);
     let length = written.length;
     let got = message::read(&buffer[..length]);

@@ -27,6 +27,7 @@ use borrow.Author.Tests.{ltb-false, leb-false, eqb-true, eqb-false, not-false, l
 use lib.Dec.{ltb, leb, eqb}
 use lib.ListN.{length, take, drop, getD, replicate, length-take, drop-of-length-le}
 use lib.Seq.{drop-drop, getD-take, take-at}
+use Rattle.rules.specs.Filled.{sketchFrom}
 use Rattle.rules.specs.Numbers.{modulus, mostSamples, listLimit, sampleCounts, plans, samples}
 use Rattle.rules.specs.Plans.{samples-most}
 use Rattle.algebra.specs.Tabulate.{tabulate, tabulate-ext, tabulate-self}
@@ -194,15 +195,11 @@ slots-self s w f h =
     (λ i l. ⊎-elim (λ z. rw (lt-ltb i m (omega arith)) (h i (omega arith))) (λ p. rw (le-ltb i m (omega arith)) (sym (w .rest i (omega arith) l))) (eq-zero-or-pos (suc i - m)))
     ∙ ap (λ (n : ℕ). tabulate n (λ i. getD (s .values) i 0)) (sym (w .count)) ∙ tabulate-self (s .values) 0
 
-sketch : ℕ → ℕ → List ℕ → Sketch
-sketch p z v = record { plan = p; size = z; values = v }
-
 pub message-sketch : (s : Sketch) → WellFormed s → sketchIn (message s) ≡ s
-unfolding sketch
 message-sketch s w =
     let b = message s in
-    ap₂ (λ (p z : ℕ). sketch p z (slots (samples p) (messageValue b) (λ _. 0))) (message-plan s (w .plan)) (message-size s (w .size))
-    ∙ ap (sketch (s .plan) (s .size)) (slots-self s w (messageValue b) (message-value s w))
+    ap₂ (λ (p z : ℕ). sketchFrom p z (slots (samples p) (messageValue b) (λ _. 0))) (message-plan s (w .plan)) (message-size s (w .size))
+    ∙ ap (sketchFrom (s .plan) (s .size)) (slots-self s w (messageValue b) (message-value s w))
 
 -- reading b succeeds and gives s
 pub record Reads (b : List ℕ) (s : Sketch) : Type 0 where

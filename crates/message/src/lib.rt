@@ -48,11 +48,7 @@ fn refused(refusal: Refusal) -> Sketched
 {
     Sketched {
         answer: Answer::Refused(refusal),
-        sketch: Sketch {
-            plan: 0,
-            size: 0,
-            values: [0u32; rules::MOST_SAMPLES],
-        },
+        sketch: plan::blank(),
     }
 }
 

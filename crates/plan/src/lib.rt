@@ -9,7 +9,7 @@ use rules::USUAL_REQUEST;
 ghost use mathlib.Core.Path.{_≡_};
 ghost use mathlib.Core.Bool.{false};
 ghost use Rattle.rules.specs.Numbers.{samples, planOf, unknownPlan};
-ghost use Rattle.rules.specs.Sketches.{goodSlot, wellFormed};
+ghost use Rattle.rules.specs.Sketches.{blank, goodSlot, wellFormed};
 
 // m for each plan code.
 const SAMPLES: [u32; 16] = [1, 2, 3, 4, 6, 8, 10, 12, 16, 20, 24, 28, 32, 40, 48, 64];
@@ -81,4 +81,15 @@ pub fn well_formed(s: Sketch) -> bool
         i += 1;
     }
     true
+}
+
+// The blank sketch, which a refused sketch or read returns.
+pub fn blank() -> Sketch
+    ensures { λ r. ⌜ r ≡ blank ⌝ }
+{
+    Sketch {
+        plan: 0,
+        size: 0,
+        values: [0u32; MOST_SAMPLES],
+    }
 }

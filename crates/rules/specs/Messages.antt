@@ -6,7 +6,7 @@
 --   versionWidth, planWidth, sizeWidth, valueWidth    the bits of each field
 --   planAt, sizeAt, valueAt i  the bit at which the plan code, the size and value i, from 0, begin
 --   fields s                   the bits of a sketch's message, but for the padding
---   messageLength m            its length in bytes
+--   messageLength m            its length in bytes; longestMessage: that of the most samples
 --   bytes n bs                 the first n bytes of some bits; what stands past their end counts as 0
 --   message s                  the message
 --   fieldAt b at w             the number that stands in w bits from bit `at` of the bytes b
@@ -15,7 +15,7 @@
 use mathlib.Core.List.{List, [], _∷_, _++_}
 use Prim.Native.Nat.{ℕ, zero, suc, _+_, _*_, _/_, _%_, _^_}
 use lib.ListN.{take, drop, getD}
-use Rattle.rules.specs.Numbers.{samples}
+use Rattle.rules.specs.Numbers.{mostSamples, samples}
 use Rattle.rules.specs.declared.Sketch.{Sketch}
 
 -- "Fields are packed with the most significant bit first"
@@ -64,6 +64,9 @@ fields s = bits versionWidth version ++ bits planWidth (s .plan) ++ bits sizeWid
 -- "then zero bits to the next whole byte. The length in bytes is 23 + 17 × m, divided by 8 and rounded up"
 abbrev pub messageLength : ℕ → ℕ
 messageLength m = (valueAt m + 7) / 8
+
+abbrev pub longestMessage : ℕ
+longestMessage = messageLength mostSamples
 
 abbrev pub bytes : ℕ → List ℕ → List ℕ
 bytes zero bs = []

@@ -37,7 +37,7 @@ use Rattle.search.specs.InField.{Good}
 use Rattle.gap.specs.Gap.{degreeOf}
 use Rattle.search.specs.Method.{solvable, decoded}
 use Rattle.interpolation.specs.Interpolated.{rowOf, Pair, NoPair, Interpolated}
-use Rattle.search.specs.Search.{Behind, Passes, Listed, Sifted, Found, Finding}
+use Rattle.search.specs.Search.{Behind, Passes, Listed, PairJudged, Found, Finding}
 open Field 𝓕 using (ring as 𝓡)
 open CRing 𝓡 using (mul)
 
@@ -111,7 +111,7 @@ module _ (m : ℕ) (b v home : List ℕ) (le : m ≤ mostSamples) (keys : Keys h
       h .none (s .0) (subst (λ k. Meets 𝓡 (k + e) m (rowOf k e b v) (s .0)) (sym ed) (subst (λ k. Meets 𝓡 (degreeOf m n (length home) + k) m (rowOf (degreeOf m n (length home)) k b v) (s .0)) (sym ee) (s .1)))
 
   -- a solution, sifted
-  pub pair-found : (d e : ℕ) (p q theirs ours : List ℕ) (found : Bool) (t o : ℕ) → Pair m d e b v p q → Sifted m b v home p q theirs ours found t o → Finding m d e v home theirs ours found t o
+  pub pair-found : (d e : ℕ) (p q theirs ours : List ℕ) (found : Bool) (t o : ℕ) → Pair m d e b v p q → PairJudged m b v home p q theirs ours found t o → Finding m d e v home theirs ours found t o
   pair-found d e p q theirs ours true t o h s = λ n good low high ed ee. listed-difference n p q theirs ours t o low high (h .len-p ∙ ap (λ k. k + 1) ed) (h .len-q ∙ ap (λ k. k + 1) ee) s
   pair-found d e p q theirs ours false t o h s = λ n good low high ed ee T O x.
       s T O (difference-passes n good low high T O x)

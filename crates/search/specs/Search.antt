@@ -5,7 +5,7 @@
 --   Judged                 the roots of a divided pair pass, as many as its degrees say; or no two lists pass whose χ the pair is
 --   Behind p q T O         theirs T and ours O are the sets behind the fraction p / q: however it is reduced, χ_T and χ_O are left
 --   Listed                 lists in the first numbers of two areas pass, with counts that are below the degrees of p and q by the same number
---   Sifted                 such lists; or none that pass are behind p / q
+--   PairJudged                 such lists; or none that pass are behind p / q
 --   Found                  lists in the first numbers of two areas are a difference
 --   Searched               a difference, or there is none
 --   Finding                the same, for every size whose degrees are given
@@ -66,9 +66,9 @@ pub record Listed (m : ℕ) (b v home p q theirs ours : List ℕ) (t o : ℕ) : 
   pub theirs-degree : suc (spare + t) ≡ length p
   pub ours-degree : suc (spare + o) ≡ length q
 
-abbrev pub Sifted : (m : ℕ) (b v home p q theirs ours : List ℕ) (found : Bool) (t o : ℕ) → Type 0
-Sifted m b v home p q theirs ours true t o = Listed m b v home p q theirs ours t o
-Sifted m b v home p q theirs ours false t o = (T O : List ℕ) → Passes m b v home T O → ¬ (Behind p q T O)
+abbrev pub PairJudged : (m : ℕ) (b v home p q theirs ours : List ℕ) (found : Bool) (t o : ℕ) → Type 0
+PairJudged m b v home p q theirs ours true t o = Listed m b v home p q theirs ours t o
+PairJudged m b v home p q theirs ours false t o = (T O : List ℕ) → Passes m b v home T O → ¬ (Behind p q T O)
 
 pub record Found (m n : ℕ) (v home theirs ours : List ℕ) (t o : ℕ) : Type 0 where
   pub theirs-room : t ≤ length theirs

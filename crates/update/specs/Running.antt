@@ -21,8 +21,8 @@ use Rattle.rules.specs.Numbers.{modulus, point, LegalKey, mostSamples, listLimi
 use Rattle.rules.specs.Sketches.{sketchOf, WellFormed, value}
 use Rattle.rules.specs.Calls.{addResult, removeResult}
 use Rattle.rules.specs.declared.Sketch.{Sketch}
-use Rattle.rules.specs.Filled.{slot-low, slot-high, slots-ext, slots-same}
-use Rattle.sketch.specs.Values.{valuesOf, kept, sketch-perm}
+use Rattle.rules.specs.Filled.{sketchFrom, slot-low, slot-high, slots-ext, slots-same}
+use Rattle.sketch.specs.Values.{valuesOf, sketch-perm}
 use Rattle.sketch.specs.Formed.{sketch-formed}
 use Rattle.update.specs.Changes.{factorOf, multiplied, MayChange, sizeAfter, changedBy}
 use Rattle.update.specs.Updates.{updateResult, Accepted, changes}
@@ -73,7 +73,7 @@ may-undo Remove size b h = omega arith
 
 changed-back : (change : Change) (s : Sketch) (k : ℕ) → Accepted change s k → changedBy (undoing change) (changedBy change s k) k ≡ s
 changed-back change s k a =
-    ap₂ (kept (s .plan)) (size-back change (s .size) (a .size))
+    ap₂ (sketchFrom (s .plan)) (size-back change (s .size) (a .size))
     (undone (samples (s .plan)) (factorOf change k) (factorOf (undoing change) k) (s .values) (a .sketch .count) (a .sketch .high) (λ i b. factors-cancel change k i (a .key) b))
 
 pub update-undone : (change : Change) (s : Sketch) (k : ℕ) → Accepted change s k → updateResult (undoing change) (updateResult change s k) k ≡ s
@@ -97,7 +97,7 @@ values-snoc m ks k =
 pub add-one-more : (plan : ℕ) (ks : List ℕ) (k : ℕ) → plan < plans → ((j : ℕ) → j ∈ ks → LegalKey j) → LegalKey k → length ks < listLimit → addResult (sketchOf plan ks) k ≡ sketchOf plan (ks ++ k ∷ [])
 add-one-more plan ks k p legal l h =
     changes Add (sketchOf plan ks) k (record { sketch = sketch-formed plan ks p legal (omega arith); key = l; size = h })
-    ∙ ap₂ (kept plan) (sym (length-append ks (k ∷ []))) (values-snoc (samples plan) ks k)
+    ∙ ap₂ (sketchFrom plan) (sym (length-append ks (k ∷ []))) (values-snoc (samples plan) ks k)
 
 pub remove-last : (plan : ℕ) (ks : List ℕ) (k : ℕ) → plan < plans → ((j : ℕ) → j ∈ ks → LegalKey j) → LegalKey k → length ks < listLimit → removeResult (sketchOf plan (ks ++ k ∷ [])) k ≡ sketchOf plan ks
 remove-last plan ks k p legal l h =

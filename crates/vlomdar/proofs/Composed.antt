@@ -16,11 +16,10 @@ use Prim.Native.Nat.{ℕ, suc, _-_, _%_, _<_, _^_}
 use native.Mathlib.Nat.{eq-zero-or-pos}
 use native.Mathlib.Omega.{arith}
 use borrow.Author.Tests.{lt-ltb, eq-eqb, ne-eqb}
-use lib.Dec.{lit<}
 use lib.ListN.{length, take, drop}
 use lib.Seq.{take-all, length-take-le}
 use Rattle.rules.specs.Numbers.{listLimit, samples, planOf, unknownPlan}
-use Rattle.rules.specs.Plans.{samples-most}
+use Rattle.rules.specs.Plans.{written-longest}
 use Rattle.rules.specs.Sketches.{sketchOf, blank}
 use Rattle.rules.specs.Messages.{messageLength, message as messageOf}
 use Rattle.rules.specs.Refusals.{numberOf, placeOf, when, _then_, given}
@@ -78,7 +77,7 @@ given-small Done x y n p q = p
 given-small (Refused r) x y n p q = q
 
 pub length-small : (s : Sketch) (room : ℕ) → writeLength s room < 2 ^ 16
-length-small s room = let m = samples-most (s .plan) in given-small (writeAnswer s room) (messageLength (samples (s .plan))) 0 (2 ^ 16) (omega arith) (lit< tt)
+length-small s room = let h = written-longest s room refl in omega arith
 
 -- too long, and cut to one key more than may be
 pub too-long : (keys : List ℕ) → listLimit < length keys → listAnswer keys ≡ Refused LongList

@@ -4,9 +4,10 @@ use Prim.Native.Nat.{_-_}
 use native.Mathlib.Omega.{arith}
 use lib.Seq.{length-take-le}
 use borrow.Author.Needs.{needs}
+use Rattle.rules.specs.Messages.{longestMessage}
 use Rattle.rules.specs.Calls.{writeLength}
 use Rattle.rules.specs.declared.Sketch.{Sketch}
-use Rattle.cases.proofs.Room.{written-fits}
+use Rattle.rules.specs.Plans.{written-longest}
 use Rattle.cases.proofs.message_case.Statement.{statement}
 use Rattle.cases.proofs.message_case.Tie as tie
 
@@ -23,7 +24,7 @@ write-all-requires : tie.Need-write-all-requires
 write-all-requires c κs = search needs
 
 array-share-prefix-buffer : tie.Need-array-share-prefix-buffer
-array-share-prefix-buffer c = omega (arith, written-fits _ _ _ (c .before .before .write .ensures .1))
+array-share-prefix-buffer c = omega (arith, written-longest _ _ (c .before .before .write .ensures .1))
 
 slice-aggregate-print-bytes : tie.Need-slice-aggregate-print-bytes
 slice-aggregate-print-bytes c = sym (length-take-le _ _ (array-share-prefix-buffer (c .before)))
@@ -38,7 +39,7 @@ write-all-requires-2 : tie.Need-write-all-requires-2
 write-all-requires-2 c κs = search needs
 
 returns : tie.Need-returns
-returns c = c .before .before .before .before .before .before .write .ensures .1 ∙ ap (λ (s : Sketch). writeLength s 139) (c .before .before .before .before .before .before .before .before .sketch .ensures .1)
+returns c = c .before .before .before .before .before .before .write .ensures .1 ∙ ap (λ (s : Sketch). writeLength s longestMessage) (c .before .before .before .before .before .before .before .before .sketch .ensures .1)
 
 pub message-case-spec : {M : Type 1} → statement M
 message-case-spec =

@@ -8,7 +8,7 @@ use lib.ListN.{take}
 use lib.Seq.{length-take-le}
 use borrow.Author.Needs.{needs}
 use Rattle.rules.specs.Calls.{readResult}
-use Rattle.cases.proofs.Room.{written-fits}
+use Rattle.rules.specs.Plans.{written-longest}
 use Rattle.cases.proofs.sent.Statement.{statement}
 use Rattle.cases.proofs.sent.Tie as tie
 
@@ -19,7 +19,7 @@ write-requires : tie.Need-write-requires
 write-requires c κs = search needs
 
 array-share-prefix-buffer : tie.Need-array-share-prefix-buffer
-array-share-prefix-buffer c = omega (arith, written-fits _ _ _ (c .before .write .ensures .1))
+array-share-prefix-buffer c = omega (arith, written-longest _ _ (c .before .write .ensures .1))
 
 slice-aggregate-read : tie.Need-slice-aggregate-read
 slice-aggregate-read c = sym (length-take-le _ _ (array-share-prefix-buffer (c .before)))

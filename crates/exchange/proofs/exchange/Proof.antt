@@ -5,6 +5,7 @@ use lib.ListN.{length}
 use lib.Seq.{length-take-le}
 use borrow.Author.Needs.{needs}
 use lib.ListN.{replicate}
+use Rattle.rules.specs.Messages.{longestMessage}
 use Rattle.rules.specs.Numbers.{planOf}
 use Rattle.rules.specs.Sketches.{sketchOf}
 use Rattle.rules.specs.Calls.{sketchAnswer}
@@ -44,7 +45,7 @@ done : (c : tie.After-write) → sketchAnswer (c .before .before .before .before
 done c = sym (c .before .before .before .before .before .sketch .ensures .0) ∙ c .before .before .before .enum-told2 .given .1
 
 room : (c : tie.After-write) → c .write .result .length ≤ length (c .write .last .1 .0)
-room c = fits (c .before .before .before .before .before .before .before .before .before .before .args .plan) (c .before .before .before .before .before .before .before .before .before .before .args .dome .now) (c .before .before .before .before .before .sketch .result .sketch) (done c) (c .before .before .before .before .before .sketch .ensures .1) (replicate 139 0) (c .write .last .1 .0) (c .write .result .length) refl (c .write .ensures .1) (c .write .ensures .2)
+room c = fits (c .before .before .before .before .before .before .before .before .before .before .args .plan) (c .before .before .before .before .before .before .before .before .before .before .args .dome .now) (c .before .before .before .before .before .sketch .result .sketch) (done c) (c .before .before .before .before .before .sketch .ensures .1) (replicate longestMessage 0) (c .write .last .1 .0) (c .write .result .length) refl (c .write .ensures .1) (c .write .ensures .2)
 
 array-share-prefix-buffer : tie.Need-array-share-prefix-buffer
 array-share-prefix-buffer c = room (c .before)
@@ -69,7 +70,7 @@ returns-2 c =
     let a = c .before .before .before .before .before .before .before .before .before .before .before .before .before .before .before .before .before .before .before .before .before .args in
     let w = c .before .before .before .before .before .before .before .before .before .before .before in
     let made = c .before .before .before .before .before .before .before .before .before .before .before .before .before .before .before .before .sketch in
-    let same = carried (a .plan) (a .dome .now) (made .result .sketch) (done w) (made .ensures .1) (replicate 139 0) (w .write .last .1 .0) (w .write .result .length) refl (w .write .ensures .1) (w .write .ensures .2) _ (c .before .before .before .before .before .before .before .before .read .ensures .1) in
+    let same = carried (a .plan) (a .dome .now) (made .result .sketch) (done w) (made .ensures .1) (replicate longestMessage 0) (w .write .last .1 .0) (w .write .result .length) refl (w .write .ensures .1) (w .write .ensures .2) _ (c .before .before .before .before .before .before .before .before .read .ensures .1) in
     let met = c .before .before .before .before .reconcile in
     let l : Left = left (met .result) (met .last .1 .1 .0) (met .last .1 .1 .1 .0) in
     let r : Reconciles (sketchOf (planOf (a .plan)) (a .dome .now)) (a .home .now) (a .theirs .now) (a .ours .now) l =

@@ -12,7 +12,7 @@ use Rattle.rules.specs.Numbers.{mostSamples}
 use Rattle.rules.specs.Formed.{slots-length}
 use Rattle.interpolation.specs.Interpolated.{Pair}
 use Rattle.lowest_terms.specs.Divided.{Divided}
-use Rattle.search.proofs.Sifting.{front-monic, sifted}
+use Rattle.search.proofs.Judging.{front-monic, pair-judged}
 use Rattle.search.proofs.Searching.{pair-yes, pair-no, monic-first, monic-second, none-found, pair-found}
 use Rattle.search.proofs.find.Statement.{statement}
 use Rattle.search.proofs.find.Tie as tie
@@ -140,7 +140,7 @@ returns-2 c =
     let values = c .before .before .before .before .before .before .before .before .before .before .before .before .before .before .before .before .before .before .before .before .before .before .before .before .before .before .before .before .before .before .before .before .values in
     let judge = c .before .before .before .before .judge in
     pair-found (a .m) (values .result) (a .v .now) (a .home .now) (s .pre .0) (s .pre .2 .keys) (values .ensures) _ _ _ _ _ _ (judge .result .found) (judge .result .theirs) (judge .result .ours) (solved (c .before .before .before .before .before .before .before .before .before .before .before .before .before .before .before .before .before .before .before .before .before .before .before))
-    (sifted _ _ _ _ _ _ _ _ _ _ _ _ _ (lowest (c .before .before .before .before .before .before .before .before .before .before .before .before .before .before .before .before .before .before)) (judge .result .found) (judge .ensures))
+    (pair-judged _ _ _ _ _ _ _ _ _ _ _ _ _ (lowest (c .before .before .before .before .before .before .before .before .before .before .before .before .before .before .before .before .before .before)) (judge .result .found) (judge .ensures))
 
 pub find-spec : {M : Type 1} → statement M
 find-spec =
