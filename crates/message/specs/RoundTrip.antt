@@ -17,7 +17,7 @@
 --
 -- Assumes nothing.
 use mathlib.Core.Path.{_≡_, refl, sym, ap, ap₂, subst, _∙_}
-use mathlib.Core.Bool.{Bool, false, cond, not, _||_}
+use mathlib.Core.Bool.{false, cond, not}
 use mathlib.Core.Logic.{⊎-elim}
 use mathlib.Core.List.{List, [], _∷_, _++_, map}
 use Prim.Native.Nat.{ℕ, zero, suc, _+_, _*_, _-_, _%_, _^_, _≤_, _<_}
@@ -36,7 +36,7 @@ use Rattle.rules.specs.Formed.{slots-at, slots-length, tested}
 use Rattle.rules.specs.Messages.{bits, number, bitsOfAll, version, versionWidth, planWidth, planAt, sizeWidth, sizeAt, valueWidth, valueAt, fields, messageLength, bytes, message, fieldAt}
 use Rattle.rules.specs.Refusals.{numberOf, when, _then_, given}
 use Rattle.rules.specs.Tests.{when-done, done-when, then-done, done-then, or-false}
-use Rattle.rules.specs.Calls.{writeAnswer, writeLength, writeBuffer, messagePlan, messageSamples, messageSize, messageValue, messagePadding, valuesAnswer, readAnswer, sketchIn, readResult}
+use Rattle.rules.specs.Calls.{writeAnswer, writeLength, writeBuffer, messagePlan, messageSamples, messageSize, messageValue, messagePadding, valuesAnswer, readAnswer, sketchIn, readResult, badValue}
 use Rattle.rules.specs.declared.Sketch.{Sketch}
 use Rattle.rules.specs.declared.Refusal.{Refusal}
 use Rattle.rules.specs.declared.Refusal.the-variants.{WrongLength, UnknownVersion, LargeSize, BadValue, PaddingSet}
@@ -47,9 +47,6 @@ use Rattle.packing.specs.Packing.{Below, below-append, below-drop, padded, padd
 -- "the first m are 1 to 65,536"
 abbrev pub GoodValue : ℕ → Type 0
 GoodValue v = (0 < v) × (v < modulus)
-
-abbrev badValue : ℕ → Bool
-badValue v = eqb v 0 || leb modulus v
 
 good-value : (v : ℕ) → badValue v ≡ false → GoodValue v
 good-value v e = let p = or-false (eqb v 0) (leb modulus v) e in (omega (arith, eqb-false v 0 (p .0)), leb-false modulus v (p .1))

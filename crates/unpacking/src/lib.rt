@@ -8,12 +8,11 @@ use residue::Residue;
 use rules::Answer;
 use rules::Refusal;
 ghost use mathlib.Core.Path.{_≡_};
-ghost use mathlib.Core.Bool.{_||_};
 ghost use Prim.Native.Nat.{_+_, _*_, _^_, _≤_, _<_};
-ghost use lib.Dec.{eqb, leb};
 ghost use lib.ListN.{length, getD};
-ghost use Rattle.rules.specs.Numbers.{modulus, mostSamples};
+ghost use Rattle.rules.specs.Numbers.{mostSamples};
 ghost use Rattle.rules.specs.Messages.{bitsOfAll, fieldAt, valueWidth, valueAt, messageLength};
+ghost use Rattle.rules.specs.Calls.{badValue};
 ghost use Rattle.unpacking.specs.Parts.{HeaderOf, ValuesOf, restAt, BodyOf};
 
 // Bit `at` of a message, from the most significant of its first byte on; 0 past its end.
@@ -57,7 +56,7 @@ pub struct Body {
 
 // No sketch has such a value.
 fn bad_value(value: u32) -> bool
-    ensures { λ r. ⌜ r ≡ (eqb value 0 || leb modulus value) ⌝ }
+    ensures { λ r. ⌜ r ≡ badValue value ⌝ }
 {
     if value == 0 {
         true

@@ -4,13 +4,13 @@ use mathlib.Core.Path.{_≡_, subst, _∙_}
 use Prim.Native.Nat.{ℕ, _-_, _≤_, _<_}
 use native.Mathlib.Omega.{arith}
 use borrow.Author.Needs.{needs}
-use lib.ListN.{length, length-set}
+use lib.ListN.{length, set, length-set}
 use Rattle.encoding.proofs.Keys.{Passed, passed-first, passed-next, passed-none, passed-all}
 use Rattle.encoding.proofs.keys_in.Statement.{statement}
 use Rattle.encoding.proofs.keys_in.Tie as tie
 
 abbrev Inv-loop : tie.InvT-loop
-Inv-loop bytes keys₀ count falls₀ i₀ keys falls i = (1 ≤ i) × (i ≤ count) × (falls < i) × Passed bytes (length keys₀) i keys falls
+Inv-loop bytes keys₀ count falls₀ i₀ keys falls i = (1 ≤ i) × (i ≤ count) × (falls < i) × Passed bytes keys₀ i keys falls
 
 abbrev μ-loop : tie.MeasureT-loop
 μ-loop bytes keys₀ count falls₀ i₀ keys falls i = count - i
@@ -84,7 +84,7 @@ returns-2 c =
     let a = c .before .before .before .before .before .before .before .args in
     let least = c .before .before .before .before .lesser in
     let all : l .i ≡ least .result = omega arith in
-    passed-all _ _ (least .ensures) (subst (λ (n : ℕ). Passed (a .bytes .now) (length (a .keys .now)) n (l .keys) (l .falls)) all (subst (λ (n : ℕ). Passed (a .bytes .now) n (l .i) (l .keys) (l .falls)) (length-set (a .keys .now) 0 _) (l .inv .3)))
+    passed-all _ _ (least .ensures) (c .before .before .key-at .result) (omega (arith, l .inv .0)) (subst (λ (n : ℕ). Passed (a .bytes .now) (set (a .keys .now) 0 (c .before .before .key-at .result)) n (l .keys) (l .falls)) all (l .inv .3))
 
 pub keys-in-spec : {M : Type 1} → statement M
 keys-in-spec =
