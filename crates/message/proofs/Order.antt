@@ -19,7 +19,7 @@ use Rattle.rules.specs.declared.Refusal.the-variants.{WrongLength, UnknownVersi
 use Rattle.rules.specs.declared.Answer.the-variants.{Done, Refused}
 use Rattle.rules.specs.declared.Sketch.{Sketch}
 use Rattle.rules.specs.declared.Sketched.{Sketched}
-use Rattle.unpacking.specs.Parts.{valuesOf, bodyAnswer}
+use Rattle.unpacking.specs.Parts.{valuesIn, bodyAnswer}
 use Rattle.rules.specs.Tests.{gives-done, gives-refused}
 
 module _ (b : List ℕ) where
@@ -50,7 +50,7 @@ module _ (b : List ℕ) where
   gives-blank s r a e refused = (a ∙ sym refused, e ∙ gives-refused (sketchIn b) blank (readAnswer b) r refused)
 
   -- a sketch by its parts
-  pub made : (plan size : ℕ) (values : List ℕ) → plan ≡ messagePlan b → size ≡ messageSize b → values ≡ valuesOf b (messageSamples b) → _≡_ {A = Sketch} (record { plan = plan; size = size; values = values }) (sketchIn b)
+  pub made : (plan size : ℕ) (values : List ℕ) → plan ≡ messagePlan b → size ≡ messageSize b → values ≡ valuesIn b (messageSamples b) → _≡_ {A = Sketch} (record { plan = plan; size = size; values = values }) (sketchIn b)
   made plan size values p n v = cc
 
   pub gives-sketch : (s : Sketch) → s ≡ sketchIn b → readAnswer b ≡ Done → s ≡ readResult b

@@ -18,11 +18,11 @@ use lib.ListN.{length, getD, length-append}
 use Rattle.algebra.specs.Sets.{_∈_}
 use Rattle.algebra.specs.Arithmetic.{subOf, mulOf, mulOf-assoc, mulOf-comm, productOf-snoc}
 use Rattle.rules.specs.Numbers.{modulus, point, LegalKey, mostSamples, listLimit, plans, samples, LegalList}
-use Rattle.rules.specs.Sketches.{sketchOf, WellFormed, value}
+use Rattle.rules.specs.Sketches.{sketchOf, WellFormed, value, valuesOf}
 use Rattle.rules.specs.Calls.{addResult, removeResult}
 use Rattle.rules.specs.declared.Sketch.{Sketch}
 use Rattle.rules.specs.Filled.{sketchFrom, slot-low, slot-high, slots-ext, slots-same}
-use Rattle.sketch.specs.Values.{valuesOf, sketch-perm}
+use Rattle.sketch.specs.Order.{sketch-perm}
 use Rattle.sketch.specs.Formed.{sketch-formed}
 use Rattle.update.specs.Changes.{factorOf, multiplied, MayChange, sizeAfter, changedBy}
 use Rattle.update.specs.Updates.{updateResult, Accepted, changes}

@@ -12,7 +12,7 @@ use Rattle.rules.specs.Calls.{messageSamples, readAnswer}
 use Rattle.rules.specs.declared.Refusal.the-variants.{WrongLength, UnknownVersion, LargeSize}
 use Rattle.rules.specs.declared.Answer.the-variants.{Done}
 use Rattle.packing.specs.Packing.{field-below}
-use Rattle.unpacking.specs.Parts.{valuesOf, noValues, bodyAnswer}
+use Rattle.unpacking.specs.Parts.{valuesIn, noValues, bodyAnswer}
 use Rattle.rules.specs.Tests.{gives-done}
 use Rattle.message.proofs.Order.{empty, unknown-version, wrong-length, large-size, to-body, gives-blank, gives-sketch, made}
 use Rattle.message.proofs.read.Statement.{statement}
@@ -41,11 +41,11 @@ at-body c =
     c .read-body .ensures .answer ∙ ap (bodyAnswer (c .before .before .before .before .before .before .before .before .before .before .before .args .message .now)) (sample-count (c .before .before .before .before))
     ∙ sym (to-body (c .before .before .before .before .before .before .before .before .before .before .before .args .message .now) (c .before .before .before .before .before .before .before .before .before .if1 .left) (known (c .before .before .before .before .before .before)) (long (c .before .before)) (rw (← header .ensures .size) (c .before .if4 .left)))
 
-body-values : (c : tie.After-read-body) → c .read-body .result .answer ≡ Done → c .read-body .result .values ≡ valuesOf (c .before .before .before .before .before .before .before .before .before .before .before .args .message .now) (messageSamples (c .before .before .before .before .before .before .before .before .before .before .before .args .message .now))
+body-values : (c : tie.After-read-body) → c .read-body .result .answer ≡ Done → c .read-body .result .values ≡ valuesIn (c .before .before .before .before .before .before .before .before .before .before .before .args .message .now) (messageSamples (c .before .before .before .before .before .before .before .before .before .before .before .args .message .now))
 body-values c e =
     let b = c .before .before .before .before .before .before .before .before .before .before .before .args .message .now in
     let m = c .before .before .before .before .samples .result in
-    c .read-body .ensures .values ∙ sym (gives-done (valuesOf b m) noValues (bodyAnswer b m) (sym (c .read-body .ensures .answer) ∙ e)) ∙ ap (valuesOf b) (sample-count (c .before .before .before .before))
+    c .read-body .ensures .values ∙ sym (gives-done (valuesIn b m) noValues (bodyAnswer b m) (sym (c .read-body .ensures .answer) ∙ e)) ∙ ap (valuesIn b) (sample-count (c .before .before .before .before))
 
 refused-requires : tie.Need-refused-requires
 refused-requires c κs = search needs
@@ -112,7 +112,7 @@ returns-5 c =
     let body = c .before .before .before .read-body in
     let answered : body .result .answer ≡ readAnswer b = at-body (c .before .before .before) in
     let done : readAnswer b ≡ Done = sym answered ∙ c .enum-told .given .1 in
-    let values : body .result .values ≡ valuesOf b (messageSamples b) = body-values (c .before .before .before) (c .enum-told .given .1) in
+    let values : body .result .values ≡ valuesIn b (messageSamples b) = body-values (c .before .before .before) (c .enum-told .given .1) in
     (answered, gives-sketch b _ (made b _ _ _ (header .ensures .plan) (header .ensures .size) values) done)
 
 returns-6 : tie.Need-returns-6

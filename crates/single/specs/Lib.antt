@@ -1,0 +1,2 @@
+-- Products of keys at one point: Products.
+pub mod Products
