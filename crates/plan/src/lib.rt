@@ -7,12 +7,16 @@ use rules::Sketch;
 use rules::USUAL_PLAN;
 use rules::USUAL_REQUEST;
 ghost use mathlib.Core.Path.{_≡_};
-ghost use mathlib.Core.Bool.{false};
-ghost use Rattle.rules.specs.Numbers.{samples, planOf, unknownPlan};
+ghost use mathlib.Core.Bool.{false, cond};
+ghost use Prim.Native.Nat.{ℕ, _≤_, _<_};
+ghost use lib.ListN.{length};
+ghost use Rattle.rules.specs.Numbers.{mostSamples, samples, planOf, unknownPlan};
 ghost use Rattle.rules.specs.Sketches.{blank, goodSlot, wellFormed};
+ghost use Rattle.rules.specs.Filled.{sketchFrom};
+ghost use Rattle.plan.specs.Counted.{Counted};
 
-// m for each plan code.
-const SAMPLES: [u32; 16] = [1, 2, 3, 4, 6, 8, 10, 12, 16, 20, 24, 28, 32, 40, 48, 64];
+// m for each plan code, in bytes: the table is copied wherever it is used.
+const SAMPLES: [u8; 16] = [1, 2, 3, 4, 6, 8, 10, 12, 16, 20, 24, 28, 32, 40, 48, 64];
 
 // How many samples a plan has; none above the last plan code.
 pub fn samples(plan: u8) -> usize
@@ -49,15 +53,69 @@ pub fn code_of(request: u32) -> u8
     }
 }
 
-// Whether v may stand in slot i of a sketch with m samples.
-fn good_slot(m: usize, i: usize, v: u32) -> bool
-    ensures { λ r. ⌜ r ≡ goodSlot m i v ⌝ }
+// Whether v may stand in a slot of a sample.
+fn good_value(v: u32) -> bool
+    ensures { λ r. ⌜ ((m i : ℕ) → i < m → r ≡ goodSlot m i v) ⌝ }
 {
-    if i < m {
-        if 0 < v { v < Residue::MODULUS } else { false }
-    } else {
-        v == 0
+    if 0 < v { v < Residue::MODULUS } else { false }
+}
+
+// 1 where v may not stand in a slot of a sample, else 0: a number, so that slots are counted and none makes a branch.
+fn bad_value(v: u32) -> u32
+    ensures { λ r. ⌜ ((m i : ℕ) → i < m → r ≡ cond (goodSlot m i v) 0 1) ⌝ }
+{
+    if good_value(v) { 0 } else { 1 }
+}
+
+// The same for the slots after those.
+fn bad_rest(v: u32) -> u32
+    ensures { λ r. ⌜ ((m i : ℕ) → m ≤ i → r ≡ cond (goodSlot m i v) 0 1) ⌝ }
+{
+    if v == 0 { 0 } else { 1 }
+}
+
+// How many of the first m slots are bad.
+fn bad_values(m: usize, values: &[u32; MOST_SAMPLES]) -> u32
+    requires { ⌜ m ≤ mostSamples ⌝ }
+    ensures { λ r. ⌜ Counted m 0 m (now (values .entry)) r ⌝ }
+{
+    let mut bad = 0;
+    let mut i = 0;
+    while i < m {
+        bad += bad_value(values[i]);
+        i += 1;
     }
+    bad
+}
+
+// How many of the others are.
+fn bad_rests(m: usize, values: &[u32; MOST_SAMPLES]) -> u32
+    requires { ⌜ m ≤ mostSamples ⌝ }
+    ensures { λ r. ⌜ Counted m m mostSamples (now (values .entry)) r ⌝ }
+{
+    let mut bad = 0;
+    let mut i = m;
+    while i < MOST_SAMPLES {
+        bad += bad_rest(values[i]);
+        i += 1;
+    }
+    bad
+}
+
+// Whether the sketch of these parts is well-formed. All slots are looked at, those of the samples in one pass and the others in the next, so that
+// the compiler takes several at a time.
+pub fn formed(plan: u8, size: u32, values: &[u32; MOST_SAMPLES]) -> bool
+    requires { ⌜ length (now values) ≡ mostSamples ⌝ }
+    ensures { λ r. ⌜ r ≡ wellFormed (sketchFrom plan size (now (values .entry))) ⌝ }
+{
+    if PLANS <= plan as u32 {
+        return false;
+    }
+    if LIST_LIMIT < size {
+        return false;
+    }
+    let m = samples(plan);
+    bad_values(m, values) + bad_rests(m, values) == 0
 }
 
 // Whether a sketch is well-formed: 64 slots it has by its type.
@@ -66,21 +124,7 @@ pub fn well_formed(s: Sketch) -> bool
 {
     let plan = s.plan;
     let size = s.size;
-    if PLANS <= plan as u32 {
-        return false;
-    }
-    if LIST_LIMIT < size {
-        return false;
-    }
-    let m = samples(plan);
-    let mut i = 0;
-    while i < MOST_SAMPLES {
-        if !good_slot(m, i, s.values[i]) {
-            return false;
-        }
-        i += 1;
-    }
-    true
+    formed(plan, size, &s.values)
 }
 
 // The blank sketch, which a refused sketch or read returns.

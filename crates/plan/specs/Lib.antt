@@ -1,0 +1,2 @@
+-- What a count of bad slots tells: Counted.
+pub mod Counted
