@@ -19,7 +19,7 @@ fn wide(byte: u8) -> u32
 }
 
 // The key whose bytes begin at `at`, the lowest first.
-fn key_at(bytes: &[u8], at: usize) -> u32
+pub fn key_at(bytes: &[u8], at: usize) -> u32
     requires { ⌜ at + keyBytes ≤ length (now bytes) ⌝ }
     ensures { λ r. ⌜ r ≡ keyAt (now (bytes .entry)) at ⌝ }
 {

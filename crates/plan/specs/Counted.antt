@@ -42,7 +42,7 @@ counted-more {m} {from} {i} {bad} {x} vs l e c = record {
     | no other ↦ c .none (omega arith) j least (omega (arith, other))
   ];
   all = λ h.
-    let y : bad ≡ 0 = c .all (λ j least less. h j least (omega arith)) in
-    let w : x ≡ 0 = e ∙ ap (λ (b : Bool). cond b 0 1) (h i l (omega arith)) in
-    omega arith;
+      let y : bad ≡ 0 = c .all (λ j least less. h j least (omega arith)) in
+      let w : x ≡ 0 = e ∙ ap (λ (b : Bool). cond b 0 1) (h i l (omega arith)) in
+      omega arith;
 }

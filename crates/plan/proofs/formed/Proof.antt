@@ -44,9 +44,9 @@ decides s a b p z count low high =
     ⊎-elim
     (λ none. eq-eqb (a + b) 0 none ∙ sym (slots-left s p z count ∙ at-good m 0 (s .values) (λ j h. good j (omega arith) none (eq-zero-or-pos (suc j - m)))))
     (λ some. ne-eqb (a + b) 0 (λ e. omega arith) ∙ sym (refuted (wellFormed s) (λ e. let w = formed-of s e in
-      let x : a ≡ 0 = low .all (λ j l h. low-good m j (getD (s .values) j 0) h (w .low j h) (w .high j h)) in
-      let y : b ≡ 0 = high .all (λ j l h. rest-good m j (getD (s .values) j 0) l (w .rest j l h)) in
-      omega arith)))
+    let x : a ≡ 0 = low .all (λ j l h. low-good m j (getD (s .values) j 0) h (w .low j h) (w .high j h)) in
+    let y : b ≡ 0 = high .all (λ j l h. rest-good m j (getD (s .values) j 0) l (w .rest j l h)) in
+    omega arith)))
     (eq-zero-or-pos (a + b))
   where
     m : ℕ

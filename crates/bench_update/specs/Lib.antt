@@ -1,0 +1,2 @@
+-- Many updates, one after the other: Folds.
+pub mod Folds
