@@ -1,0 +1,2 @@
+-- What the coefficients come to: Computing.
+pub mod Computing

@@ -1,0 +1,2 @@
+-- Five coefficients: Five.
+pub mod Five
