@@ -2,6 +2,16 @@
 
 #include "vlomdar.h"
 
+#include <algorithm>
+#include <cstring>
+
+// The crate `update`, made callable for the benchmark: reads the message, adds or removes the keys of the list one by one, and writes the
+// message back. 0: all went well.
+extern "C" {
+std::uint64_t vlomdar_bench_add(const std::uint8_t *list, std::size_t list_length, std::uint8_t *message, std::size_t message_length);
+std::uint64_t vlomdar_bench_remove(const std::uint8_t *list, std::size_t list_length, std::uint8_t *message, std::size_t message_length);
+}
+
 const char entries_name[] = "Vlomdar";
 
 namespace {
@@ -14,76 +24,93 @@ Bytes list_of(const Keys &keys)
     return list;
 }
 
-// The values that stand in a message: 17 bits each, the highest first, behind 23 others.
-Values values_in(const std::uint8_t *message, std::size_t samples)
+bool same(const std::uint8_t *bytes, std::size_t length, const Bytes &expected)
 {
-    Values values(samples);
-    for (std::size_t bit = 0; bit < 17 * samples; bit++) {
-        std::size_t at = 23 + bit;
-        values[bit / 17] = 2 * values[bit / 17] + (message[at / 8] >> (7 - at % 8) & 1u);
-    }
-    return values;
-}
-
-Keys keys_in(const std::uint8_t *list, std::size_t count)
-{
-    Keys keys(count);
-    for (std::size_t i = 0; i < count; i++)
-        keys[i] = vlomdar_get_key(list, i);
-    return keys;
+    return length == expected.size() && std::equal(expected.begin(), expected.end(), bytes);
 }
 
 struct SketchCall {
     std::uint32_t plan;
     Bytes list;
-    Values expected;
+    Bytes expected;
     std::uint8_t message[VLOMDAR_LONGEST_MESSAGE];
     std::uint64_t returned;
 
-    SketchCall(std::uint32_t plan, const Keys &keys, const Values &expected) : plan(plan), list(list_of(keys)), expected(expected) {}
+    SketchCall(std::uint32_t plan, const Keys &keys, const Bytes &expected) : plan(plan), list(list_of(keys)), expected(expected) {}
 
     void work() { returned = vlomdar_sketch(plan, list.data(), list.size(), message, sizeof message); }
 
-    bool right() const
-    {
-        return vlomdar_number(returned) == VLOMDAR_DONE && vlomdar_length(returned) == vlomdar_message_length(plan) &&
-               values_in(message, vlomdar_samples(plan)) == expected;
-    }
+    bool right() const { return vlomdar_number(returned) == VLOMDAR_DONE && same(message, vlomdar_length(returned), expected); }
 };
 
 struct ReconcileCall {
+    Bytes message;
     Bytes home;
-    Difference expected;
-    std::uint8_t message[VLOMDAR_LONGEST_MESSAGE];
-    std::size_t message_length;
+    Bytes expected_theirs;
+    Bytes expected_ours;
     std::uint8_t theirs[VLOMDAR_MOST_SAMPLES * VLOMDAR_KEY_BYTES];
     std::uint8_t ours[VLOMDAR_MOST_SAMPLES * VLOMDAR_KEY_BYTES];
     std::uint64_t returned;
 
-    // The message comes from the dome's call, which is not timed.
-    ReconcileCall(std::uint32_t plan, const Sides &sides) : home(list_of(sides.home)), expected(sides.difference)
+    ReconcileCall(const Bytes &message, const Sides &sides)
+        : message(message), home(list_of(sides.home)), expected_theirs(bytes_of(sides.theirs)), expected_ours(bytes_of(sides.ours))
     {
-        Bytes dome = list_of(sides.dome);
-        message_length = vlomdar_length(vlomdar_sketch(plan, dome.data(), dome.size(), message, sizeof message));
     }
 
-    void work() { returned = vlomdar_reconcile(message, message_length, home.data(), home.size(), theirs, sizeof theirs, ours, sizeof ours); }
+    void work()
+    {
+        returned = vlomdar_reconcile(message.data(), message.size(), home.data(), home.size(), theirs, sizeof theirs, ours, sizeof ours);
+    }
 
     bool right() const
     {
-        return vlomdar_number(returned) == VLOMDAR_DONE &&
-               Difference{keys_in(theirs, vlomdar_theirs(returned)), keys_in(ours, vlomdar_ours(returned))} == expected;
+        return vlomdar_number(returned) == VLOMDAR_DONE && same(theirs, VLOMDAR_KEY_BYTES * vlomdar_theirs(returned), expected_theirs) &&
+               same(ours, VLOMDAR_KEY_BYTES * vlomdar_ours(returned), expected_ours);
     }
+};
+
+using Change = std::uint64_t(const std::uint8_t *, std::size_t, std::uint8_t *, std::size_t);
+
+struct UpdateCall {
+    Change *change;
+    Bytes list;
+    Bytes before;
+    Bytes after;
+    std::uint8_t message[VLOMDAR_LONGEST_MESSAGE];
+    std::uint64_t returned;
+
+    UpdateCall(Change *change, const Keys &keys, const Bytes &before, const Bytes &after)
+        : change(change), list(list_of(keys)), before(before), after(after)
+    {
+    }
+
+    void work()
+    {
+        std::memcpy(message, before.data(), before.size());
+        returned = change(list.data(), list.size(), message, before.size());
+    }
+
+    bool right() const { return returned == 0 && same(message, before.size(), after); }
 };
 
 } // namespace
 
-Contestant entry_sketch(std::uint32_t plan, const Keys &keys, const Values &expected)
+Contestant entry_sketch(std::uint32_t plan, const Keys &keys, const Bytes &expected)
 {
     return contestant(entries_name, std::make_shared<SketchCall>(plan, keys, expected));
 }
 
-Contestant entry_reconcile(std::uint32_t plan, const Sides &sides)
+Contestant entry_reconcile(const Bytes &message, const Sides &sides)
 {
-    return contestant(entries_name, std::make_shared<ReconcileCall>(plan, sides));
+    return contestant(entries_name, std::make_shared<ReconcileCall>(message, sides));
+}
+
+Contestant entry_add(const Keys &keys, const Bytes &before, const Bytes &after)
+{
+    return contestant(entries_name, std::make_shared<UpdateCall>(vlomdar_bench_add, keys, before, after));
+}
+
+Contestant entry_remove(const Keys &keys, const Bytes &before, const Bytes &after)
+{
+    return contestant(entries_name, std::make_shared<UpdateCall>(vlomdar_bench_remove, keys, before, after));
 }

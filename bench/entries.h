@@ -1,8 +1,7 @@
-// The C entries as contestants. Bytes go in and bytes come out; they are made into numbers only to be compared.
+// The C entries as contestants. Bytes go in and bytes come out.
 #ifndef BENCH_ENTRIES_H
 #define BENCH_ENTRIES_H
 
-#include "peer.h"
 #include "race.h"
 #include "sets.h"
 
@@ -10,7 +9,9 @@
 
 extern const char entries_name[];
 
-Contestant entry_sketch(std::uint32_t plan, const Keys &keys, const Values &expected);
-Contestant entry_reconcile(std::uint32_t plan, const Sides &sides);
+Contestant entry_sketch(std::uint32_t plan, const Keys &keys, const Bytes &expected);
+Contestant entry_reconcile(const Bytes &message, const Sides &sides);
+Contestant entry_add(const Keys &keys, const Bytes &before, const Bytes &after);
+Contestant entry_remove(const Keys &keys, const Bytes &before, const Bytes &after);
 
 #endif

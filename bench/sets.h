@@ -1,4 +1,4 @@
-// Random sets whose difference is known, the same ones in every run.
+// Sets whose difference is known, the same ones in every run of the benchmark.
 #ifndef BENCH_SETS_H
 #define BENCH_SETS_H
 
@@ -13,12 +13,21 @@ using Random = std::mt19937;
 struct Sides {
     Keys home;
     Keys dome;
-    Difference difference;
+    Keys theirs;
+    Keys ours;
 };
 
-Keys random_keys(std::size_t count, Random &random);
+// How a list is made.
+struct Shape {
+    std::size_t runs; // 0: any keys, each as likely; otherwise so many runs of consecutive keys, their lengths and places random
 
-// Home has `home` keys, of which the dome lacks `ours`; the dome has `theirs` more.
-Sides random_sides(std::size_t home, std::size_t theirs, std::size_t ours, Random &random);
+    const char *name() const { return runs == 0 ? "random" : "runs"; }
+};
+
+Keys make_keys(std::size_t count, Shape shape, Random &random);
+
+// Home has `home` keys, of which the dome lacks `ours`; the dome has `theirs` more. Both together have the shape, and the keys apart are any
+// of them.
+Sides make_sides(std::size_t home, std::size_t theirs, std::size_t ours, Shape shape, Random &random);
 
 #endif

@@ -2,19 +2,20 @@
 #ifndef BENCH_PLAIN_FRACTION_H
 #define BENCH_PLAIN_FRACTION_H
 
-#include "../degrees.h"
 #include "polynomial.h"
+#include "values.h"
 
 namespace plain {
 
-// numerator = denominator × value at every sample point
+// The polynomials are in W = -Z, which is 1, 2 and so on at the sample points; a key is the negative of a root.
 struct Fraction {
     Polynomial numerator;
     Polynomial denominator;
 };
 
-// The fraction of two monic polynomials that a difference would be; false where it cannot be one.
-bool find_fraction(const Values &values, const Degrees &degrees, Fraction &found);
+// The fraction of two monic polynomials that a difference would be; false where there is none. The gap is the numerator's degree less the
+// denominator's.
+bool find_fraction(const Units &values, std::size_t samples, long gap, Fraction &found);
 
 } // namespace plain
 

@@ -6,8 +6,8 @@
 
 namespace plain {
 
-// All roots of a monic polynomial, in no order; false where it has fewer different ones than its degree.
-bool find_roots(const Polynomial &polynomial, Keys &roots);
+// The negatives of all roots of a monic polynomial, in no order; false where it has fewer different ones than its degree.
+bool find_roots(const Polynomial &polynomial, Side &negatives);
 
 } // namespace plain
 
