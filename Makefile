@@ -99,6 +99,7 @@ against-damage: $(AGAINST_PROGRAM) $(REPORT)
 # The benchmark. The peers are compiled for the processor that the archive is for, any x86-64.
 BENCH = build/bench/bench
 BENCHFLAGS ?= -O3
+BENCH_UPDATE = target/staticlib/libbench_update.a
 BENCH_OBJECTS = $(patsubst %.cpp,build/%.o,$(wildcard bench/*.cpp bench/plain/*.cpp))
 
 bench-packages:
@@ -110,7 +111,7 @@ $(BENCH_OBJECTS): build/%.o: %.cpp | bench-packages
 
 -include $(BENCH_OBJECTS:.o=.d)
 
-$(BENCH): $(BENCH_OBJECTS) $(ARCHIVE)
+$(BENCH): $(BENCH_OBJECTS) $(ARCHIVE) $(BENCH_UPDATE)
 	$(CXX) -o $@ $^ -lntl -lflint -lgmp -lpthread
 
 bench: $(BENCH)

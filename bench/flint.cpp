@@ -1,5 +1,6 @@
 // The peer that uses FLINT: its arithmetic modulo a word, its polynomials and its root finding.
 #include "degrees.h"
+#include "library.h"
 #include "peer.h"
 
 #include <flint/flint.h>
@@ -11,12 +12,32 @@
 
 namespace {
 
-using Limbs = std::vector<mp_limb_t>;
+struct Field {
+    using Number = mp_limb_t;
 
-// So many products go side by side, because the processor need not wait for one before it begins the next.
-constexpr std::size_t lanes = 8;
+    nmod_t modulo;
 
-mp_limb_t point(std::size_t index) { return modulus - 1 - index; }
+    Field() { nmod_init(&modulo, modulus); }
+
+    mp_limb_t times(mp_limb_t one, mp_limb_t other) const { return nmod_mul(one, other, modulo); }
+    mp_limb_t inverse(mp_limb_t number) const { return nmod_inv(number, modulo); }
+    void multiply_in(const std::uint32_t *keys, std::size_t count, std::size_t first, mp_limb_t *product) const;
+};
+
+// A limb holds a residue times two more, so two keys share one reduction.
+void Field::multiply_in(const std::uint32_t *keys, std::size_t count, std::size_t first, mp_limb_t *product) const
+{
+    mp_limb_t lane[library::lanes], start = mp_limb_t(library::point(first));
+    std::copy(product, product + library::lanes, lane);
+    for (std::size_t key = 0; key + 1 < count; key += 2)
+        for (std::size_t i = 0; i < library::lanes; i++) {
+            mp_limb_t both = (start - i - keys[key]) * (start - i - keys[key + 1]);
+            NMOD_RED2(lane[i], mp_limb_t(0), lane[i] * both, modulo);
+        }
+    for (std::size_t i = 0; count % 2 == 1 && i < library::lanes; i++)
+        lane[i] = times(lane[i], start - i - keys[count - 1]);
+    std::copy(lane, lane + library::lanes, product);
+}
 
 // FLINT's polynomials are C structures that have to be cleared.
 struct Polynomial {
@@ -51,55 +72,22 @@ struct Fraction {
 
 class Flint : public Peer {
 public:
-    Flint() { nmod_init(&field, modulus); }
     ~Flint() override { flint_cleanup(); }
 
     const char *name() const override { return "FLINT"; }
     std::string version() const override { return FLINT_VERSION; }
-    Values values(const Keys &keys, std::size_t samples) override;
-    bool reconcile(const Keys &home, const Sketch &dome, Difference &found) override;
+    void values(const List &list, Sketch &sketch) override { library::write_values(field, list, sketch); }
+    bool reconcile(const List &home, const Sketch &dome, Difference &found) override;
+    bool add(const List &list, Sketch &sketch) override { return library::add_all(field, list, sketch); }
+    bool remove(const List &list, Sketch &sketch) override { return library::remove_all(field, list, sketch); }
 
 private:
-    void multiply_in(const Keys &keys, std::size_t first, mp_limb_t *product) const;
-    Limbs flint_values(const Keys &keys, std::size_t samples) const;
     void monic_sum(Fraction &earlier, Fraction &later, Fraction &sum) const;
-    bool find_fraction(const Limbs &values, const Degrees &degrees, Fraction &found) const;
-    bool find_roots(const Polynomial &polynomial, Keys &roots) const;
+    bool find_fraction(mp_limb_t *values, std::size_t samples, const Degrees &degrees, Fraction &found) const;
+    bool find_roots(const Polynomial &polynomial, Side &roots) const;
 
-    nmod_t field;
+    Field field;
 };
-
-// A limb holds a residue times two more, so two keys share one reduction.
-void Flint::multiply_in(const Keys &keys, std::size_t first, mp_limb_t *product) const
-{
-    std::size_t pairs = keys.size() / 2;
-    for (std::size_t pair = 0; pair < pairs; pair++)
-        for (std::size_t lane = 0; lane < lanes; lane++) {
-            mp_limb_t both = (point(first + lane) - keys[2 * pair]) * (point(first + lane) - keys[2 * pair + 1]);
-            NMOD_RED2(product[lane], mp_limb_t(0), product[lane] * both, field);
-        }
-    if (keys.size() % 2 == 1)
-        for (std::size_t lane = 0; lane < lanes; lane++)
-            product[lane] = nmod_mul(product[lane], point(first + lane) - keys.back(), field);
-}
-
-Limbs Flint::flint_values(const Keys &keys, std::size_t samples) const
-{
-    Limbs made(samples);
-    for (std::size_t first = 0; first < samples; first += lanes) {
-        mp_limb_t product[lanes];
-        std::fill(product, product + lanes, 1);
-        multiply_in(keys, first, product);
-        std::copy(product, product + std::min(lanes, samples - first), made.begin() + long(first));
-    }
-    return made;
-}
-
-Values Flint::values(const Keys &keys, std::size_t samples)
-{
-    Limbs made = flint_values(keys, samples);
-    return Values(made.begin(), made.end());
-}
 
 // The next pair of Euclid's scheme takes the place of the earlier one.
 void step(Fraction &earlier, const Fraction &later)
@@ -113,21 +101,20 @@ void step(Fraction &earlier, const Fraction &later)
 // The sum of both pairs with factors that make numerator and denominator monic.
 void Flint::monic_sum(Fraction &earlier, Fraction &later, Fraction &sum) const
 {
-    earlier.scale(nmod_inv(earlier.numerator.leading(), field));
-    later.scale(nmod_inv(later.denominator.leading(), field));
+    earlier.scale(field.inverse(earlier.numerator.leading()));
+    later.scale(field.inverse(later.denominator.leading()));
     nmod_poly_add(sum.numerator.it, earlier.numerator.it, later.numerator.it);
     nmod_poly_add(sum.denominator.it, earlier.denominator.it, later.denominator.it);
 }
 
-bool Flint::find_fraction(const Limbs &values, const Degrees &degrees, Fraction &found) const
+bool Flint::find_fraction(mp_limb_t *values, std::size_t samples, const Degrees &degrees, Fraction &found) const
 {
-    slong samples = slong(values.size());
-    Limbs points(values.size());
-    for (std::size_t i = 0; i < points.size(); i++)
-        points[i] = point(i);
+    mp_limb_t points[VLOMDAR_MOST_SAMPLES];
+    for (std::size_t i = 0; i < samples; i++)
+        points[i] = mp_limb_t(library::point(i));
     Fraction earlier, later;
-    nmod_poly_product_roots_nmod_vec(earlier.numerator.it, points.data(), samples);
-    nmod_poly_interpolate_nmod_vec(later.numerator.it, points.data(), const_cast<mp_limb_t *>(values.data()), samples);
+    nmod_poly_product_roots_nmod_vec(earlier.numerator.it, points, slong(samples));
+    nmod_poly_interpolate_nmod_vec(later.numerator.it, points, values, slong(samples));
     nmod_poly_one(later.denominator.it);
     while (degrees.middle() <= later.numerator.degree()) {
         step(earlier, later);
@@ -139,39 +126,39 @@ bool Flint::find_fraction(const Limbs &values, const Degrees &degrees, Fraction 
     }
     if (!degrees.allow(later.numerator.degree(), later.denominator.degree()) || later.numerator.leading() != later.denominator.leading())
         return false;
-    later.scale(nmod_inv(later.numerator.leading(), field));
+    later.scale(field.inverse(later.numerator.leading()));
     found.swap(later);
     return true;
 }
 
 // All roots of a monic polynomial; false where it has fewer different ones than its degree.
-bool Flint::find_roots(const Polynomial &polynomial, Keys &roots) const
+bool Flint::find_roots(const Polynomial &polynomial, Side &roots) const
 {
-    roots.clear();
+    roots.count = 0;
     if (polynomial.degree() == 0)
         return true;
     nmod_poly_factor_t found;
     nmod_poly_factor_init(found);
     nmod_poly_roots(found, polynomial.it, 0);
     for (slong i = 0; i < found->num; i++)
-        roots.push_back(std::uint32_t(nmod_neg(nmod_poly_get_coeff_ui(found->p + i, 0), field)));
+        roots.add(std::uint32_t(nmod_neg(nmod_poly_get_coeff_ui(found->p + i, 0), field.modulo)));
     nmod_poly_factor_clear(found);
-    return slong(roots.size()) == polynomial.degree();
+    return slong(roots.count) == polynomial.degree();
 }
 
-bool Flint::reconcile(const Keys &home, const Sketch &dome, Difference &found)
+bool Flint::reconcile(const List &home, const Sketch &dome, Difference &found)
 {
-    std::size_t samples = dome.values.size();
-    Degrees degrees(samples, home.size(), dome.count);
+    std::size_t samples = dome.samples();
+    Degrees degrees(samples, home.count, dome.size);
     if (!degrees.possible())
         return false;
-    Limbs fraction_values = flint_values(home, samples);
-    for (std::size_t i = 0; i < samples; i++)
-        fraction_values[i] = nmod_div(dome.values[i], fraction_values[i], field);
+    library::Quotients<Field> values;
+    found = Difference();
+    if (!library::find_fraction_values(field, home, dome, values))
+        return true;
     Fraction fraction;
-    if (!find_fraction(fraction_values, degrees, fraction))
-        return false;
-    return find_roots(fraction.numerator, found.theirs) && find_roots(fraction.denominator, found.ours) && settle(home, found);
+    return find_fraction(values.above, samples, degrees, fraction) && find_roots(fraction.numerator, found.theirs) &&
+           find_roots(fraction.denominator, found.ours) && settle(home, found);
 }
 
 } // namespace

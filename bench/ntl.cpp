@@ -1,5 +1,6 @@
 // The peer that uses NTL: its arithmetic modulo a small prime, its polynomials and its root finding.
 #include "degrees.h"
+#include "library.h"
 #include "peer.h"
 
 #include <NTL/lzz_pX.h>
@@ -15,28 +16,25 @@ using NTL::vec_zz_p;
 using NTL::zz_p;
 using NTL::zz_pX;
 
-// So many products go side by side, because the processor need not wait for one before it begins the next.
-constexpr std::size_t lanes = 8;
+struct Field {
+    using Number = long;
 
-long point(std::size_t index) { return long(modulus) - 1 - long(index); }
-
-vec_zz_p ntl_values(const Keys &keys, std::size_t samples)
-{
-    vec_zz_p made;
-    made.SetLength(long(samples));
     const long prime = zz_p::modulus();
     const NTL::mulmod_t prepared = zz_p::ModulusInverse();
-    for (std::size_t first = 0; first < samples; first += lanes) {
-        long product[lanes];
-        std::fill(product, product + lanes, 1);
-        for (std::uint32_t key : keys)
-            for (std::size_t lane = 0; lane < lanes; lane++)
-                product[lane] = NTL::MulMod(product[lane], point(first + lane) - long(key), prime, prepared);
-        for (std::size_t lane = 0; lane < lanes && first + lane < samples; lane++)
-            made[long(first + lane)] = product[lane];
+
+    long times(long one, long other) const { return NTL::MulMod(one, other, prime, prepared); }
+    long inverse(long number) const { return NTL::InvMod(number, prime); }
+
+    void multiply_in(const std::uint32_t *keys, std::size_t count, std::size_t first, long *product) const
+    {
+        long lane[library::lanes];
+        std::copy(product, product + library::lanes, lane);
+        for (std::size_t key = 0; key < count; key++)
+            for (std::size_t i = 0; i < library::lanes; i++)
+                lane[i] = times(lane[i], library::point(first + i) - long(keys[key]));
+        std::copy(lane, lane + library::lanes, product);
     }
-    return made;
-}
+};
 
 // numerator = denominator × value at every sample point
 struct Fraction {
@@ -66,7 +64,7 @@ bool find_fraction(const vec_zz_p &values, const Degrees &degrees, Fraction &fou
     vec_zz_p points;
     points.SetLength(values.length());
     for (long i = 0; i < points.length(); i++)
-        points[i] = point(std::size_t(i));
+        points[i] = library::point(std::size_t(i));
     Fraction earlier{NTL::BuildFromRoots(points), zz_pX()};
     Fraction later{NTL::interpolate(points, values), zz_pX(1)};
     while (degrees.middle() <= NTL::deg(later.numerator)) {
@@ -88,9 +86,9 @@ bool find_fraction(const vec_zz_p &values, const Degrees &degrees, Fraction &fou
 
 // All roots of a monic polynomial; false where it has fewer different ones than its degree. FindRoots asks for a polynomial that has as
 // many, which is one that divides Z^65,537 - Z.
-bool find_roots(const zz_pX &polynomial, Keys &roots)
+bool find_roots(const zz_pX &polynomial, Side &roots)
 {
-    roots.clear();
+    roots.count = 0;
     if (NTL::deg(polynomial) == 0)
         return true;
     if (1 < NTL::deg(polynomial) && !NTL::IsX(NTL::PowerXMod(zz_p::modulus(), NTL::zz_pXModulus(polynomial))))
@@ -98,8 +96,32 @@ bool find_roots(const zz_pX &polynomial, Keys &roots)
     vec_zz_p found;
     NTL::FindRoots(found, polynomial);
     for (long i = 0; i < found.length(); i++)
-        roots.push_back(std::uint32_t(NTL::rep(found[i])));
+        roots.add(std::uint32_t(NTL::rep(found[i])));
     return true;
+}
+
+vec_zz_p vector_of(const long *number, std::size_t count)
+{
+    vec_zz_p made;
+    made.SetLength(long(count));
+    for (std::size_t i = 0; i < count; i++)
+        made[long(i)].LoopHole() = number[i];
+    return made;
+}
+
+bool reconcile(const List &home, const Sketch &dome, Difference &found)
+{
+    std::size_t samples = dome.samples();
+    Degrees degrees(samples, home.count, dome.size);
+    if (!degrees.possible())
+        return false;
+    library::Quotients<Field> values;
+    found = Difference();
+    if (!library::find_fraction_values(Field(), home, dome, values))
+        return true;
+    Fraction fraction;
+    return find_fraction(vector_of(values.above, samples), degrees, fraction) && find_roots(fraction.numerator, found.theirs) &&
+           find_roots(fraction.denominator, found.ours) && settle(home, found);
 }
 
 class Ntl : public Peer {
@@ -108,30 +130,10 @@ public:
 
     const char *name() const override { return "NTL"; }
     std::string version() const override { return NTL_VERSION; }
-
-    Values values(const Keys &keys, std::size_t samples) override
-    {
-        vec_zz_p made = ntl_values(keys, samples);
-        Values out(samples);
-        for (std::size_t i = 0; i < samples; i++)
-            out[i] = std::uint32_t(NTL::rep(made[long(i)]));
-        return out;
-    }
-
-    bool reconcile(const Keys &home, const Sketch &dome, Difference &found) override
-    {
-        std::size_t samples = dome.values.size();
-        Degrees degrees(samples, home.size(), dome.count);
-        if (!degrees.possible())
-            return false;
-        vec_zz_p fraction_values = ntl_values(home, samples);
-        for (std::size_t i = 0; i < samples; i++)
-            fraction_values[long(i)] = zz_p(long(dome.values[i])) / fraction_values[long(i)];
-        Fraction fraction;
-        if (!find_fraction(fraction_values, degrees, fraction))
-            return false;
-        return find_roots(fraction.numerator, found.theirs) && find_roots(fraction.denominator, found.ours) && settle(home, found);
-    }
+    void values(const List &list, Sketch &sketch) override { library::write_values(Field(), list, sketch); }
+    bool reconcile(const List &home, const Sketch &dome, Difference &found) override { return ::reconcile(home, dome, found); }
+    bool add(const List &list, Sketch &sketch) override { return library::add_all(Field(), list, sketch); }
+    bool remove(const List &list, Sketch &sketch) override { return library::remove_all(Field(), list, sketch); }
 };
 
 } // namespace
