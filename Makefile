@@ -3,8 +3,8 @@
 #   make                   target/staticlib/libvlomdar.a (proves the library first) and build/exchange
 #   make check             header as C and C++, example against its expected output, entries against document 01, an installation
 #   make against           a second implementation against the archive and the night report (tests/README.md), under valgrind, and on damaged inputs
-#   make bench             times beside plain C++, NTL and FLINT, and a picture of them (docs/PERFORMANCE.md; fails only on a wrong answer)
-#   make figures           the same, and this run's results put into bench/results.csv, docs/performance.svg and the tables of the page
+#   make bench             times beside plain C++, NTL and FLINT, and pictures of them (docs/PERFORMANCE.md; fails only on a wrong answer)
+#   make figures           the same, and this run's results put into bench/results.csv, docs/performance*.svg and the tables of the page
 #   make install PREFIX=.. header, archive, vlomdar.pc, the program night_report and man pages; DESTDIR is put before PREFIX
 #   make clean             removes build/
 
@@ -116,11 +116,11 @@ $(BENCH): $(BENCH_OBJECTS) $(ARCHIVE) $(BENCH_UPDATE)
 
 bench: $(BENCH)
 	$(BENCH) --csv build/bench/results.csv
-	python3 bench/plot.py build/bench/results.csv build/bench/performance.svg
+	python3 bench/plot.py build/bench/results.csv build/bench/performance.svg build/bench/performance-short.svg
 
 figures: bench
 	cp build/bench/results.csv bench/results.csv
-	cp build/bench/performance.svg docs/performance.svg
+	cp build/bench/performance.svg build/bench/performance-short.svg docs/
 	python3 -B bench/page.py bench/results.csv docs/PERFORMANCE.md
 
 install: $(ARCHIVE) $(REPORT)

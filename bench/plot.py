@@ -1,10 +1,10 @@
 #!/usr/bin/env python3
 """Draws what bench wrote with --csv.
 
-    plot.py RESULTS.csv PICTURE.svg
+    plot.py RESULTS.csv LONG.svg SHORT.svg
 
-At the top, how long each peer takes for the work of one Vlomdar call, in six cases; below, how the times grow with the list's length and
-with the samples. Needs nothing but Python's own library.
+Two pictures, one for long lists and one for short ones. At the top of each, how long each peer takes for the work of one Vlomdar call; below,
+how the times grow with the list's length and, for long lists, with the samples. Needs nothing but Python's own library.
 """
 import csv
 import math
@@ -89,7 +89,7 @@ def times(ratio):
 
 
 def spread(places, distance):
-    """The same places, moved down where they would stand nearer to each other than the distance, and then up again as a whole."""
+    """The same places, moved on where they would stand nearer to each other than the distance, and then back again as a whole."""
     order = sorted(range(len(places)), key=lambda i: places[i])
     moved = dict(enumerate(places))
     for before, after in zip(order, order[1:]):
@@ -108,56 +108,65 @@ def legend(picture, y):
         x += 42 + 11 * len(contestant)
 
 
-def cases_of(rows):
-    """The rows of each case together, in the order of the file."""
+def works(rows):
+    """The time of every contestant for each piece of work, in the order of the file."""
     found = {}
     for row in rows:
-        if row["table"] == "cases":
-            found.setdefault((row["operation"], row["samples"], row["keys"], row["theirs"], row["ours"]), {})[row["contestant"]] = row["microseconds"]
+        work = (row["operation"], row["shape"], row["samples"], row["keys"], row["theirs"], row["ours"])
+        found.setdefault(work, {})[row["contestant"]] = row["microseconds"]
     return found
 
 
-def case_name(operation, samples, keys, theirs, ours):
-    return f"{operation}, m = {samples}" + (f", {theirs} + {ours}" if operation == "reconcile" else "")
+def long_name(operation, shape, samples, keys, theirs, ours):
+    return f"{operation}, m = {samples}" + (f", {theirs} + {ours}" if operation == "reconcile" else "") + (", runs" if shape == "runs" else "")
+
+
+def short_name(operation, shape, samples, keys, theirs, ours):
+    difference = "" if operation != "reconcile" else ", equal" if theirs + ours == 0 else f", {theirs} + {ours}"
+    return f"{operation}{difference}, {shape}, m = {samples}"
 
 
 def ratio_axis(picture, scale, top, bottom):
-    for tick in (0.01, 0.02, 0.05, 0.1, 0.2, 0.5, 1, 2, 5, 10, 20, 50, 100):
+    for tick in (0.001, 0.003, 0.01, 0.03, 0.1, 0.3, 1, 3, 10, 30, 100, 300):
         if scale.least <= tick <= scale.most:
             picture.line(scale(tick), top, scale(tick), bottom, COLOURS[OURS] if tick == 1 else GRID, 2 if tick == 1 else 1)
             picture.text(scale(tick), bottom + 20, f"{tick:g}×", 15, FAINT, "middle")
 
 
-def ratios(picture, rows, top):
+def ratio_row(picture, scale, y, name, found):
+    """One piece of work. FLINT's number stands below its marker and the others above, moved apart where they would touch."""
+    picture.text(40, y + 5, name, 17)
+    picture.line(scale.start, y, scale.end, y, GRID)
+    for contestant, time in found.items():
+        picture.marker(scale(time / found[OURS]), y, contestant, 7)
+    above = [contestant for contestant in found if contestant not in (OURS, "FLINT")]
+    places = spread([scale(found[contestant] / found[OURS]) for contestant in above], 50)
+    for contestant, place in [*zip(above, places), ("FLINT", scale(found["FLINT"] / found[OURS]))]:
+        picture.text(place, y + (24 if contestant == "FLINT" else -11), times(found[contestant] / found[OURS]), 15, COLOURS[contestant], "middle")
+    picture.text(WIDTH - 40, y + 5, duration(found[OURS]), 17, COLOURS[OURS], "end", "bold")
+
+
+def ratios(picture, cases, top, about, name):
     """One line a case, Vlomdar at 1; a peer stands to the right where it takes longer. Returns the lower edge."""
-    cases = cases_of(rows)
     all_ratios = [time / case[OURS] for case in cases.values() for time in case.values()]
-    scale = Logarithmic(min(0.5, min(all_ratios) / 1.4), max(2, max(all_ratios) * 1.4), 320, WIDTH - 150)
+    scale = Logarithmic(min(0.5, min(all_ratios) / 1.5), max(2, max(all_ratios) * 1.5), 340, WIDTH - 150)
     height, first = 56, top + 70
     bottom = first + height * len(cases) - 26
     picture.text(40, top, "Time of each peer, as a multiple of Vlomdar's", 21, weight="bold")
-    picture.text(40, top + 24, "16,384 keys; right of the line: slower than Vlomdar", 16, FAINT)
+    picture.text(40, top + 24, f"{about}; right of the line: slower than Vlomdar", 16, FAINT)
     picture.text(WIDTH - 40, top + 24, "Vlomdar's time", 16, COLOURS[OURS], "end")
     ratio_axis(picture, scale, first - 28, bottom)
     for index, (case, found) in enumerate(cases.items()):
-        y = first + height * index
-        picture.text(40, y + 5, case_name(*case), 17)
-        picture.line(scale.start, y, scale.end, y, GRID)
-        for contestant, time in found.items():
-            place = scale(time / found[OURS])
-            picture.marker(place, y, contestant, 7)
-            if contestant != OURS:
-                picture.text(place, y + (24 if contestant == "FLINT" else -11), times(time / found[OURS]), 15, COLOURS[contestant], "middle")
-        picture.text(WIDTH - 40, y + 5, duration(found[OURS]), 17, COLOURS[OURS], "end", "bold")
+        ratio_row(picture, scale, first + height * index, name(*case), found)
     return bottom + 30
 
 
 class Panel:
     """One chart of times over a number, both logarithmic. Where the number may be 0, that stands left of a gap."""
 
-    def __init__(self, picture, left, top, title, label):
+    def __init__(self, picture, left, top, title, label, width=236):
         self.picture, self.title, self.label = picture, title, label
-        self.left, self.right, self.top, self.bottom = left + 62, left + 298, top + 34, top + 260
+        self.left, self.right, self.top, self.bottom = left + 62, left + 62 + width, top + 34, top + 260
 
     def draw(self, rows, column, ticks):
         least, most = min(row["microseconds"] for row in rows), max(row["microseconds"] for row in rows)
@@ -195,7 +204,7 @@ class Panel:
 
 def growth(picture, rows, top):
     """Sketch above, reconcile below; over the keys at 16 and 64 samples, and over the samples. Returns the lower edge."""
-    picture.text(40, top, "How the time grows", 21, weight="bold")
+    picture.text(40, top, "How the time grows, random keys", 21, weight="bold")
     top += 16
     for operation in ("sketch", "reconcile"):
         mine = [row for row in rows if row["operation"] == operation]
@@ -208,15 +217,42 @@ def growth(picture, rows, top):
     return top
 
 
-def main():
-    if len(sys.argv) != 3:
-        sys.exit(__doc__)
-    rows = read(sys.argv[1])
+def short_growth(picture, rows, top):
+    """Sketch on the left, reconcile on the right; 16 samples above, 64 below. Returns the lower edge."""
+    picture.text(40, top, "How the time grows up to 1,000 random keys", 21, weight="bold")
+    top += 16
+    for samples in (16, 64):
+        for index, operation in enumerate(("sketch", "reconcile")):
+            panel = Panel(picture, 30 + 580 * index, top, f"{operation}, m = {samples}", "keys of the list", 430)
+            wanted = [row for row in rows if row["table"] == "keys" and row["operation"] == operation and row["samples"] == samples]
+            panel.draw([row for row in wanted if row["keys"] <= 1000], "keys", (0, 1, 10, 100, 1000))
+        top += 318
+    return top
+
+
+def long_picture(rows):
     picture = Picture()
     legend(picture, 40)
-    lower = growth(picture, rows, ratios(picture, rows, 88) + 34)
-    with open(sys.argv[2], "w", encoding="utf-8") as file:
-        file.write(picture.written(lower + 10))
+    cases = works([row for row in rows if row["table"] in ("cases", "season")])
+    lower = ratios(picture, cases, 88, "16,384 keys, random or a season's runs", long_name)
+    return picture.written(growth(picture, rows, lower + 34) + 10)
+
+
+def short_picture(rows):
+    picture = Picture()
+    legend(picture, 40)
+    cases = works([row for row in rows if row["table"] in ("night", "equal") and row["keys"] <= 1000])
+    lower = ratios(picture, cases, 88, "300 keys, random or a night's runs", short_name)
+    return picture.written(short_growth(picture, rows, lower + 34) + 10)
+
+
+def main():
+    if len(sys.argv) != 4:
+        sys.exit(__doc__)
+    rows = read(sys.argv[1])
+    for name, picture in ((sys.argv[2], long_picture(rows)), (sys.argv[3], short_picture(rows))):
+        with open(name, "w", encoding="utf-8") as file:
+            file.write(picture)
 
 
 if __name__ == "__main__":
