@@ -51,7 +51,8 @@ struct PeerReconcile {
     bool done;
 
     PeerReconcile(Peer &peer, const Bytes &message, const Sides &sides)
-        : peer(peer), message(message), bytes(bytes_of(sides.home)), expected_theirs(bytes_of(sides.theirs)), expected_ours(bytes_of(sides.ours))
+        : peer(peer), message(message), bytes(bytes_of(sides.home)), expected_theirs(bytes_of(sides.theirs)),
+          expected_ours(bytes_of(sides.ours))
     {
     }
 
@@ -66,10 +67,14 @@ struct PeerReconcile {
 
     static bool same(const Side &side, const std::uint8_t *bytes, const Bytes &expected)
     {
-        return VLOMDAR_KEY_BYTES * side.count == expected.size() && std::equal(expected.begin(), expected.end(), bytes);
+        return VLOMDAR_KEY_BYTES * side.count == expected.size() &&
+               std::equal(expected.begin(), expected.end(), bytes);
     }
 
-    bool right() const { return done && same(found.theirs, theirs, expected_theirs) && same(found.ours, ours, expected_ours); }
+    bool right() const
+    {
+        return done && same(found.theirs, theirs, expected_theirs) && same(found.ours, ours, expected_ours);
+    }
 };
 
 // A running sketch, from a message to a message.
@@ -84,7 +89,8 @@ struct PeerUpdate {
     std::uint8_t message[VLOMDAR_LONGEST_MESSAGE];
     bool done;
 
-    PeerUpdate(Peer &peer, bool (Peer::*change)(const List &, Sketch &), const Keys &keys, const Bytes &before, const Bytes &after)
+    PeerUpdate(Peer &peer, bool (Peer::*change)(const List &, Sketch &), const Keys &keys, const Bytes &before,
+               const Bytes &after)
         : peer(peer), change(change), bytes(bytes_of(keys)), before(before), after(after)
     {
     }
@@ -134,6 +140,7 @@ std::vector<Contestant> removers(std::uint32_t plan, const Keys &keys, const Pee
     Bytes none = defined_message(plan, Keys()), all_keys = defined_message(plan, keys);
     std::vector<Contestant> all{entry_remove(keys, all_keys, none)};
     for (const auto &peer : peers)
-        all.push_back(contestant(peer->name(), std::make_shared<PeerUpdate>(*peer, &Peer::remove, keys, all_keys, none)));
+        all.push_back(
+            contestant(peer->name(), std::make_shared<PeerUpdate>(*peer, &Peer::remove, keys, all_keys, none)));
     return all;
 }

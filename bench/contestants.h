@@ -12,7 +12,8 @@
 
 using Peers = std::vector<std::unique_ptr<Peer>>;
 
-// The sketch of a list under a plan. The answers are held against a message made of products that are taken one by one.
+// The sketch of a list under a plan. The answers are held against a message made of products that are taken one by
+// one.
 std::vector<Contestant> sketchers(std::uint32_t plan, const Keys &keys, const Peers &peers);
 
 // The difference of two sides under a plan. The answers are held against the difference that the sides were made with.

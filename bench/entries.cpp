@@ -5,11 +5,13 @@
 #include <algorithm>
 #include <cstring>
 
-// The crate `update`, made callable for the benchmark: reads the message, adds or removes the keys of the list one by one, and writes the
-// message back. 0: all went well.
+// The crate `update`, made callable for the benchmark: reads the message, adds or removes the keys of the list one by
+// one, and writes the message back. 0: all went well.
 extern "C" {
-std::uint64_t vlomdar_bench_add(const std::uint8_t *list, std::size_t list_length, std::uint8_t *message, std::size_t message_length);
-std::uint64_t vlomdar_bench_remove(const std::uint8_t *list, std::size_t list_length, std::uint8_t *message, std::size_t message_length);
+std::uint64_t vlomdar_bench_add(const std::uint8_t *list, std::size_t list_length, std::uint8_t *message,
+                                std::size_t message_length);
+std::uint64_t vlomdar_bench_remove(const std::uint8_t *list, std::size_t list_length, std::uint8_t *message,
+                                   std::size_t message_length);
 }
 
 const char entries_name[] = "Vlomdar";
@@ -36,11 +38,17 @@ struct SketchCall {
     std::uint8_t message[VLOMDAR_LONGEST_MESSAGE];
     std::uint64_t returned;
 
-    SketchCall(std::uint32_t plan, const Keys &keys, const Bytes &expected) : plan(plan), list(list_of(keys)), expected(expected) {}
+    SketchCall(std::uint32_t plan, const Keys &keys, const Bytes &expected)
+        : plan(plan), list(list_of(keys)), expected(expected)
+    {
+    }
 
     void work() { returned = vlomdar_sketch(plan, list.data(), list.size(), message, sizeof message); }
 
-    bool right() const { return vlomdar_number(returned) == VLOMDAR_DONE && same(message, vlomdar_length(returned), expected); }
+    bool right() const
+    {
+        return vlomdar_number(returned) == VLOMDAR_DONE && same(message, vlomdar_length(returned), expected);
+    }
 };
 
 struct ReconcileCall {
@@ -53,18 +61,21 @@ struct ReconcileCall {
     std::uint64_t returned;
 
     ReconcileCall(const Bytes &message, const Sides &sides)
-        : message(message), home(list_of(sides.home)), expected_theirs(bytes_of(sides.theirs)), expected_ours(bytes_of(sides.ours))
+        : message(message), home(list_of(sides.home)), expected_theirs(bytes_of(sides.theirs)),
+          expected_ours(bytes_of(sides.ours))
     {
     }
 
     void work()
     {
-        returned = vlomdar_reconcile(message.data(), message.size(), home.data(), home.size(), theirs, sizeof theirs, ours, sizeof ours);
+        returned = vlomdar_reconcile(message.data(), message.size(), home.data(), home.size(), theirs, sizeof theirs,
+                                     ours, sizeof ours);
     }
 
     bool right() const
     {
-        return vlomdar_number(returned) == VLOMDAR_DONE && same(theirs, VLOMDAR_KEY_BYTES * vlomdar_theirs(returned), expected_theirs) &&
+        return vlomdar_number(returned) == VLOMDAR_DONE &&
+               same(theirs, VLOMDAR_KEY_BYTES * vlomdar_theirs(returned), expected_theirs) &&
                same(ours, VLOMDAR_KEY_BYTES * vlomdar_ours(returned), expected_ours);
     }
 };

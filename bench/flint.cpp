@@ -124,7 +124,8 @@ bool Flint::find_fraction(mp_limb_t *values, std::size_t samples, const Degrees 
         monic_sum(earlier, later, found);
         return true;
     }
-    if (!degrees.allow(later.numerator.degree(), later.denominator.degree()) || later.numerator.leading() != later.denominator.leading())
+    if (!degrees.allow(later.numerator.degree(), later.denominator.degree()) ||
+        later.numerator.leading() != later.denominator.leading())
         return false;
     later.scale(field.inverse(later.numerator.leading()));
     found.swap(later);
@@ -163,7 +164,4 @@ bool Flint::reconcile(const List &home, const Sketch &dome, Difference &found)
 
 } // namespace
 
-std::unique_ptr<Peer> flint_peer()
-{
-    return std::unique_ptr<Peer>(new Flint);
-}
+std::unique_ptr<Peer> flint_peer() { return std::unique_ptr<Peer>(new Flint); }

@@ -19,8 +19,9 @@ static std::uint32_t key_at(const std::uint8_t *bytes, std::size_t index)
     return key;
 }
 
-// As numbers with a sign the keys of a legal list ascend from 0 or more to the limit or less, and a list that does so is legal. So each key
-// is only held against the one before it, and without a branch, so that the compiler takes several keys at once.
+// As numbers with a sign the keys of a legal list ascend from 0 or more to the limit or less, and a list that does so
+// is legal. So each key is only held against the one before it, and without a branch, so that the compiler takes
+// several keys at once.
 bool take(const Bytes &bytes, List &list)
 {
     list.count = bytes.size() / VLOMDAR_KEY_BYTES;
@@ -42,10 +43,7 @@ bool take(const Bytes &bytes, List &list)
     return unordered == 0 && list.keys[0] <= VLOMDAR_KEY_LIMIT && list.keys[list.count - 1] <= VLOMDAR_KEY_LIMIT;
 }
 
-void give(const Side &side, std::uint8_t *bytes)
-{
-    std::memcpy(bytes, side.keys, VLOMDAR_KEY_BYTES * side.count);
-}
+void give(const Side &side, std::uint8_t *bytes) { std::memcpy(bytes, side.keys, VLOMDAR_KEY_BYTES * side.count); }
 
 // Halves the list without a branch on a key, which would be guessed wrong every other time.
 static bool holds(const List &list, std::uint32_t key)
@@ -71,7 +69,8 @@ bool settle(const List &home, Difference &found)
 // So many keys at once are looked at for the end of a run.
 constexpr std::size_t stride = 8;
 
-// Adds the runs that end at a key from `from` to `to` - 1. Every key is written where the next end would stand, and stays if it is one.
+// Adds the runs that end at a key from `from` to `to` - 1. Every key is written where the next end would stand, and
+// stays if it is one.
 static void add_ends(const List &list, std::size_t from, std::size_t to, Runs &runs)
 {
     std::size_t count = runs.count;

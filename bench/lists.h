@@ -1,4 +1,5 @@
-// Lists of keys: as bytes, the way the C entries take them, and as numbers; and what makes two lists a difference of home.
+// Lists of keys: as bytes, the way the C entries take them, and as numbers; and what makes two lists a difference of
+// home.
 #ifndef BENCH_LISTS_H
 #define BENCH_LISTS_H
 
@@ -34,7 +35,8 @@ struct Difference {
 
 Bytes bytes_of(const Keys &keys);
 
-// The keys of a list of bytes; false where the list is not legal: too long, a key too large, or one not above the key before it.
+// The keys of a list of bytes; false where the list is not legal: too long, a key too large, or one not above the key
+// before it.
 bool take(const Bytes &bytes, List &list);
 
 // The keys of one side as bytes.

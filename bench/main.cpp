@@ -1,4 +1,5 @@
-// The C entries beside three peers, in one process on the same sets: every answer is checked, and the least time of many runs is told.
+// The C entries beside three peers, in one process on the same sets: every answer is checked, and the least time of
+// many runs is told.
 //
 //   bench             prints the tables
 //   bench --csv FILE  and writes the times to FILE, which plot.py draws and page.py puts into tables
@@ -16,9 +17,9 @@
 
 namespace {
 
-constexpr std::uint32_t usual_plan = 8;     // 16 samples
-constexpr std::uint32_t middle_plan = 12;   // 32 samples
-constexpr std::uint32_t largest_plan = 15;  // 64 samples
+constexpr std::uint32_t usual_plan = 8;    // 16 samples
+constexpr std::uint32_t middle_plan = 12;  // 32 samples
+constexpr std::uint32_t largest_plan = 15; // 64 samples
 
 constexpr std::size_t night_keys = 300;
 constexpr Shape any_keys{0};
@@ -58,7 +59,8 @@ private:
     }
 
     void sketch(std::uint32_t plan, std::size_t keys, Shape shape = any_keys);
-    void reconcile(std::uint32_t plan, std::size_t longest, std::size_t theirs, std::size_t ours, Shape shape = any_keys);
+    void reconcile(std::uint32_t plan, std::size_t longest, std::size_t theirs, std::size_t ours,
+                   Shape shape = any_keys);
     void add_and_remove(std::uint32_t plan, std::size_t keys);
 
     Peers peers;
@@ -68,7 +70,8 @@ private:
 
 std::string described(const char *operation, std::size_t keys, Shape shape, std::size_t samples)
 {
-    return std::string(operation) + " of " + std::to_string(keys) + " keys (" + shape.name() + ") at " + std::to_string(samples) + " samples";
+    return std::string(operation) + " of " + std::to_string(keys) + " keys (" + shape.name() + ") at " +
+           std::to_string(samples) + " samples";
 }
 
 void Bench::sketch(std::uint32_t plan, std::size_t keys, Shape shape)
@@ -84,7 +87,8 @@ void Bench::reconcile(std::uint32_t plan, std::size_t longest, std::size_t their
     std::size_t home = longest - (ours < theirs ? std::min(longest, theirs) - ours : 0);
     std::size_t samples = vlomdar_samples(plan);
     std::vector<Contestant> all = reconcilers(plan, make_sides(home, theirs, ours, shape, random), peers);
-    std::string what = described("reconcile", home, shape, samples) + ", " + std::to_string(theirs) + " + " + std::to_string(ours);
+    std::string what =
+        described("reconcile", home, shape, samples) + ", " + std::to_string(theirs) + " + " + std::to_string(ours);
     results.add({"reconcile", shape.name(), samples, home, theirs, ours, race(what, all)});
 }
 

@@ -67,8 +67,8 @@ std::size_t write(const Sketch &sketch, std::uint8_t *message)
     return std::size_t(packer.next - message);
 }
 
-// The values are read each by its own place, so that none waits for the one before it, from a copy that eight bytes can be read of anywhere.
-// A value less 1 has a bit above the lowest 16 where the value is 0 or above 65,536.
+// The values are read each by its own place, so that none waits for the one before it, from a copy that eight bytes
+// can be read of anywhere. A value less 1 has a bit above the lowest 16 where the value is 0 or above 65,536.
 bool read(const std::uint8_t *message, std::size_t length, Sketch &sketch)
 {
     if (length == 0 || message[0] >> 4 != version || length != vlomdar_message_length(message[0] & 15))

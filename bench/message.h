@@ -1,5 +1,6 @@
-// A sketch and its message (include/vlomdar.h): 4 bits of version, 4 of plan, 15 of size, 17 for each value, then zero bits to the next
-// whole byte, the most significant bit first. All peers write and read it by these two functions.
+// A sketch and its message (include/vlomdar.h): 4 bits of version, 4 of plan, 15 of size, 17 for each value, then
+// zero bits to the next whole byte, the most significant bit first. All peers write and read it by these two
+// functions.
 #ifndef BENCH_MESSAGE_H
 #define BENCH_MESSAGE_H
 

@@ -84,8 +84,8 @@ bool find_fraction(const vec_zz_p &values, const Degrees &degrees, Fraction &fou
     return true;
 }
 
-// All roots of a monic polynomial; false where it has fewer different ones than its degree. FindRoots asks for a polynomial that has as
-// many, which is one that divides Z^65,537 - Z.
+// All roots of a monic polynomial; false where it has fewer different ones than its degree. FindRoots asks for a
+// polynomial that has as many, which is one that divides Z^65,537 - Z.
 bool find_roots(const zz_pX &polynomial, Side &roots)
 {
     roots.count = 0;
@@ -120,8 +120,9 @@ bool reconcile(const List &home, const Sketch &dome, Difference &found)
     if (!library::find_fraction_values(Field(), home, dome, values))
         return true;
     Fraction fraction;
-    return find_fraction(vector_of(values.above, samples), degrees, fraction) && find_roots(fraction.numerator, found.theirs) &&
-           find_roots(fraction.denominator, found.ours) && settle(home, found);
+    return find_fraction(vector_of(values.above, samples), degrees, fraction) &&
+           find_roots(fraction.numerator, found.theirs) && find_roots(fraction.denominator, found.ours) &&
+           settle(home, found);
 }
 
 class Ntl : public Peer {
@@ -131,14 +132,14 @@ public:
     const char *name() const override { return "NTL"; }
     std::string version() const override { return NTL_VERSION; }
     void values(const List &list, Sketch &sketch) override { library::write_values(Field(), list, sketch); }
-    bool reconcile(const List &home, const Sketch &dome, Difference &found) override { return ::reconcile(home, dome, found); }
+    bool reconcile(const List &home, const Sketch &dome, Difference &found) override
+    {
+        return ::reconcile(home, dome, found);
+    }
     bool add(const List &list, Sketch &sketch) override { return library::add_all(Field(), list, sketch); }
     bool remove(const List &list, Sketch &sketch) override { return library::remove_all(Field(), list, sketch); }
 };
 
 } // namespace
 
-std::unique_ptr<Peer> ntl_peer()
-{
-    return std::unique_ptr<Peer>(new Ntl);
-}
+std::unique_ptr<Peer> ntl_peer() { return std::unique_ptr<Peer>(new Ntl); }

@@ -33,8 +33,10 @@ class Picture:
         corners = " ".join(f"{x:.1f},{y:.1f}" for x, y in points)
         self.elements.append(f'<polyline points="{corners}" fill="none" stroke="{colour}" stroke-width="{width}" stroke-linejoin="round"/>')
 
-    def text(self, x, y, words, size=16, colour=INK, anchor="start", weight="normal"):
-        self.elements.append(f'<text x="{x:.1f}" y="{y:.1f}" font-size="{size}" fill="{colour}" text-anchor="{anchor}" font-weight="{weight}">{escape(words)}</text>')
+    def text(self, x, y, words, size=16, colour=INK, anchor="start", weight="normal", around=False):
+        """With `around` the letters have a rim of the background, so that a line behind them does not cross them."""
+        rim = f' stroke="{BACKGROUND}" stroke-width="4" stroke-linejoin="round" paint-order="stroke"' if around else ""
+        self.elements.append(f'<text x="{x:.1f}" y="{y:.1f}" font-size="{size}" fill="{colour}" text-anchor="{anchor}" font-weight="{weight}"{rim}>{escape(words)}</text>')
 
     def marker(self, x, y, contestant, radius):
         colour, shape = COLOURS[contestant], MARKERS[contestant]
@@ -117,11 +119,7 @@ def works(rows):
     return found
 
 
-def long_name(operation, shape, samples, keys, theirs, ours):
-    return f"{operation}, m = {samples}" + (f", {theirs} + {ours}" if operation == "reconcile" else "") + (", runs" if shape == "runs" else "")
-
-
-def short_name(operation, shape, samples, keys, theirs, ours):
+def work_name(operation, shape, samples, keys, theirs, ours):
     difference = "" if operation != "reconcile" else ", equal" if theirs + ours == 0 else f", {theirs} + {ours}"
     return f"{operation}{difference}, {shape}, m = {samples}"
 
@@ -142,14 +140,15 @@ def ratio_row(picture, scale, y, name, found):
     above = [contestant for contestant in found if contestant not in (OURS, "FLINT")]
     places = spread([scale(found[contestant] / found[OURS]) for contestant in above], 50)
     for contestant, place in [*zip(above, places), ("FLINT", scale(found["FLINT"] / found[OURS]))]:
-        picture.text(place, y + (24 if contestant == "FLINT" else -11), times(found[contestant] / found[OURS]), 15, COLOURS[contestant], "middle")
+        down = 24 if contestant == "FLINT" else -11
+        picture.text(place, y + down, times(found[contestant] / found[OURS]), 15, COLOURS[contestant], "middle", around=True)
     picture.text(WIDTH - 40, y + 5, duration(found[OURS]), 17, COLOURS[OURS], "end", "bold")
 
 
-def ratios(picture, cases, top, about, name):
+def ratios(picture, cases, top, about):
     """One line a case, Vlomdar at 1; a peer stands to the right where it takes longer. Returns the lower edge."""
     all_ratios = [time / case[OURS] for case in cases.values() for time in case.values()]
-    scale = Logarithmic(min(0.5, min(all_ratios) / 1.5), max(2, max(all_ratios) * 1.5), 340, WIDTH - 150)
+    scale = Logarithmic(min(0.5, min(all_ratios) / 1.5), max(2, max(all_ratios) * 1.5), 375, WIDTH - 150)
     height, first = 56, top + 70
     bottom = first + height * len(cases) - 26
     picture.text(40, top, "Time of each peer, as a multiple of Vlomdar's", 21, weight="bold")
@@ -157,7 +156,7 @@ def ratios(picture, cases, top, about, name):
     picture.text(WIDTH - 40, top + 24, "Vlomdar's time", 16, COLOURS[OURS], "end")
     ratio_axis(picture, scale, first - 28, bottom)
     for index, (case, found) in enumerate(cases.items()):
-        ratio_row(picture, scale, first + height * index, name(*case), found)
+        ratio_row(picture, scale, first + height * index, work_name(*case), found)
     return bottom + 30
 
 
@@ -233,8 +232,8 @@ def short_growth(picture, rows, top):
 def long_picture(rows):
     picture = Picture()
     legend(picture, 40)
-    cases = works([row for row in rows if row["table"] in ("cases", "season")])
-    lower = ratios(picture, cases, 88, "16,384 keys, random or a season's runs", long_name)
+    cases = works([row for table in ("cases", "season") for row in rows if row["table"] == table])
+    lower = ratios(picture, cases, 88, "Longest lists, random or a season's runs")
     return picture.written(growth(picture, rows, lower + 34) + 10)
 
 
@@ -242,7 +241,7 @@ def short_picture(rows):
     picture = Picture()
     legend(picture, 40)
     cases = works([row for row in rows if row["table"] in ("night", "equal") and row["keys"] <= 1000])
-    lower = ratios(picture, cases, 88, "300 keys, random or a night's runs", short_name)
+    lower = ratios(picture, cases, 88, "300 keys, random or a night's runs")
     return picture.written(short_growth(picture, rows, lower + 34) + 10)
 
 

@@ -8,7 +8,8 @@
 
 namespace {
 
-// Microseconds. A work that is shorter is done several times between two looks at the clock, which itself takes up to one of them.
+// Microseconds. A work that is shorter is done several times between two looks at the clock, which itself takes up to
+// one of them.
 constexpr double shortest = 50.0;
 
 // So many microseconds a race takes for each contestant, and so many rounds it has at least.

@@ -10,9 +10,9 @@
 // One piece of work, and how long each contestant took for it.
 struct Result {
     std::string operation;
-    std::string shape;      // of the list
+    std::string shape; // of the list
     std::size_t samples;
-    std::size_t keys;       // of home, or of the list that is sketched, added or removed
+    std::size_t keys; // of home, or of the list that is sketched, added or removed
     std::size_t theirs;
     std::size_t ours;
     std::vector<double> microseconds;

@@ -14,7 +14,8 @@ static Keys numbers_below(std::uint32_t limit, std::size_t count, Random &random
     return numbers;
 }
 
-// A key is as many as there are keys below it and, of the numbers below it that are no keys, as many as stand before its run.
+// A key is as many as there are keys below it and, of the numbers below it that are no keys, as many as stand before
+// its run.
 static Keys keys_in_runs(std::size_t count, std::size_t runs, Random &random)
 {
     Keys ends = numbers_below(std::uint32_t(count) - 1, runs - 1, random);
@@ -30,7 +31,8 @@ static Keys keys_in_runs(std::size_t count, std::size_t runs, Random &random)
 
 Keys make_keys(std::size_t count, Shape shape, Random &random)
 {
-    return shape.runs == 0 ? numbers_below(VLOMDAR_KEY_LIMIT + 1, count, random) : keys_in_runs(count, shape.runs, random);
+    return shape.runs == 0 ? numbers_below(VLOMDAR_KEY_LIMIT + 1, count, random)
+                           : keys_in_runs(count, shape.runs, random);
 }
 
 static Keys ascending(Keys::const_iterator first, Keys::const_iterator last)
@@ -47,6 +49,6 @@ Sides make_sides(std::size_t home, std::size_t theirs, std::size_t ours, Shape s
     std::shuffle(keys.begin(), keys.end(), random);
     auto first_shared = keys.begin() + long(ours);
     auto first_theirs = keys.begin() + long(home);
-    return {ascending(keys.begin(), first_theirs), ascending(first_shared, keys.end()), ascending(first_theirs, keys.end()),
-            ascending(keys.begin(), first_shared)};
+    return {ascending(keys.begin(), first_theirs), ascending(first_shared, keys.end()),
+            ascending(first_theirs, keys.end()), ascending(keys.begin(), first_shared)};
 }

@@ -4,8 +4,9 @@
 
 #include "message.h"
 
-// Known plan, legal size, values 1 to 65,536 at the plan's samples and 0 behind them. A value less 1 has a bit above the lowest 16 where the
-// value is 0 or above 65,536. No branch on a value, so that the compiler takes several at once.
+// Known plan, legal size, values 1 to 65,536 at the plan's samples and 0 behind them. A value less 1 has a bit above
+// the lowest 16 where the value is 0 or above 65,536. No branch on a value, so that the compiler takes several at
+// once.
 inline bool well_formed(const Sketch &sketch)
 {
     if (15 < sketch.plan || VLOMDAR_LIST_LIMIT < sketch.size)

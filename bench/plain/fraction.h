@@ -13,8 +13,8 @@ struct Fraction {
     Polynomial denominator;
 };
 
-// The fraction of two monic polynomials that a difference would be; false where there is none. The gap is the numerator's degree less the
-// denominator's.
+// The fraction of two monic polynomials that a difference would be; false where there is none. The gap is the
+// numerator's degree less the denominator's.
 bool find_fraction(const Units &values, std::size_t samples, long gap, Fraction &found);
 
 } // namespace plain

@@ -6,7 +6,8 @@
 
 namespace plain {
 
-// The negatives of all roots of a monic polynomial of degree 2 at most; false where it has fewer different ones than its degree.
+// The negatives of all roots of a monic polynomial of degree 2 at most; false where it has fewer different ones than
+// its degree.
 bool find_one_or_two(const Polynomial &polynomial, Side &negatives);
 
 } // namespace plain

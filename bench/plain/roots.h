@@ -6,7 +6,8 @@
 
 namespace plain {
 
-// The negatives of all roots of a monic polynomial, in no order; false where it has fewer different ones than its degree.
+// The negatives of all roots of a monic polynomial, in no order; false where it has fewer different ones than its
+// degree.
 bool find_roots(const Polynomial &polynomial, Side &negatives);
 
 } // namespace plain

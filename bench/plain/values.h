@@ -1,5 +1,5 @@
-// The values of sets at the sample points. Point number i, from 1, is -i, so a value is the product of -(key + i) over the keys; here it is
-// the product of key + i, which has the other sign where the keys are odd in number.
+// The values of sets at the sample points. Point number i, from 1, is -i, so a value is the product of -(key + i)
+// over the keys; here it is the product of key + i, which has the other sign where the keys are odd in number.
 #ifndef BENCH_PLAIN_VALUES_H
 #define BENCH_PLAIN_VALUES_H
 
