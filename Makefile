@@ -105,6 +105,11 @@ BENCH_OBJECTS = $(patsubst %.cpp,build/%.o,$(wildcard bench/*.cpp bench/plain/*.
 bench-packages:
 	@sh bench/packages.sh $(CXX)
 
+# The running sketch has no C entry; this archive makes it callable for the benchmark alone.
+$(BENCH_UPDATE): $(SOURCES) | $(ARCHIVE)
+	$(RT) staticlib bench_update
+	touch $@
+
 $(BENCH_OBJECTS): build/%.o: %.cpp | bench-packages
 	mkdir -p $(@D)
 	$(CXX) -std=c++17 $(WARN) $(BENCHFLAGS) -MMD -MP -Iinclude -c -o $@ $<
