@@ -100,7 +100,7 @@ against-damage: $(AGAINST_PROGRAM) $(REPORT)
 BENCH = build/bench/bench
 BENCHFLAGS ?= -O3
 BENCH_UPDATE = target/staticlib/libbench_update.a
-BENCH_OBJECTS = $(patsubst %.cpp,build/%.o,$(wildcard bench/*.cpp bench/plain/*.cpp))
+BENCH_OBJECTS = $(patsubst %.cpp,build/%.o,$(wildcard bench/*.cpp bench/plain/*.cpp bench/twin/*.cpp))
 
 bench-packages:
 	@sh bench/packages.sh $(CXX)

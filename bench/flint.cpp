@@ -1,6 +1,6 @@
 // The peer that uses FLINT: its arithmetic modulo a word, its polynomials and its root finding.
 #include "degrees.h"
-#include "library.h"
+#include "shared.h"
 #include "peer.h"
 
 #include <flint/flint.h>
@@ -22,21 +22,26 @@ struct Field {
     mp_limb_t times(mp_limb_t one, mp_limb_t other) const { return nmod_mul(one, other, modulo); }
     mp_limb_t inverse(mp_limb_t number) const { return nmod_inv(number, modulo); }
     void multiply_in(const std::uint32_t *keys, std::size_t count, std::size_t first, mp_limb_t *product) const;
+
+    mp_limb_t product_at(std::size_t index, const std::uint32_t *keys, std::size_t count) const
+    {
+        return shared::product_by_keys(*this, index, keys, count);
+    }
 };
 
 // A limb holds a residue times two more, so two keys share one reduction.
 void Field::multiply_in(const std::uint32_t *keys, std::size_t count, std::size_t first, mp_limb_t *product) const
 {
-    mp_limb_t lane[library::lanes], start = mp_limb_t(library::point(first));
-    std::copy(product, product + library::lanes, lane);
+    mp_limb_t lane[shared::lanes], start = mp_limb_t(shared::point(first));
+    std::copy(product, product + shared::lanes, lane);
     for (std::size_t key = 0; key + 1 < count; key += 2)
-        for (std::size_t i = 0; i < library::lanes; i++) {
+        for (std::size_t i = 0; i < shared::lanes; i++) {
             mp_limb_t both = (start - i - keys[key]) * (start - i - keys[key + 1]);
             NMOD_RED2(lane[i], mp_limb_t(0), lane[i] * both, modulo);
         }
-    for (std::size_t i = 0; count % 2 == 1 && i < library::lanes; i++)
+    for (std::size_t i = 0; count % 2 == 1 && i < shared::lanes; i++)
         lane[i] = times(lane[i], start - i - keys[count - 1]);
-    std::copy(lane, lane + library::lanes, product);
+    std::copy(lane, lane + shared::lanes, product);
 }
 
 // FLINT's polynomials are C structures that have to be cleared.
@@ -76,10 +81,10 @@ public:
 
     const char *name() const override { return "FLINT"; }
     std::string version() const override { return FLINT_VERSION; }
-    void values(const List &list, Sketch &sketch) override { library::write_values(field, list, sketch); }
+    void values(const List &list, Sketch &sketch) override { shared::write_values(field, list, sketch); }
     bool reconcile(const List &home, const Sketch &dome, Difference &found) override;
-    bool add(const List &list, Sketch &sketch) override { return library::add_all(field, list, sketch); }
-    bool remove(const List &list, Sketch &sketch) override { return library::remove_all(field, list, sketch); }
+    bool add(const List &list, Sketch &sketch) override { return shared::add_all(field, list, sketch); }
+    bool remove(const List &list, Sketch &sketch) override { return shared::remove_all(field, list, sketch); }
 
 private:
     void monic_sum(Fraction &earlier, Fraction &later, Fraction &sum) const;
@@ -111,7 +116,7 @@ bool Flint::find_fraction(mp_limb_t *values, std::size_t samples, const Degrees 
 {
     mp_limb_t points[VLOMDAR_MOST_SAMPLES];
     for (std::size_t i = 0; i < samples; i++)
-        points[i] = mp_limb_t(library::point(i));
+        points[i] = mp_limb_t(shared::point(i));
     Fraction earlier, later;
     nmod_poly_product_roots_nmod_vec(earlier.numerator.it, points, slong(samples));
     nmod_poly_interpolate_nmod_vec(later.numerator.it, points, values, slong(samples));
@@ -153,9 +158,9 @@ bool Flint::reconcile(const List &home, const Sketch &dome, Difference &found)
     Degrees degrees(samples, home.count, dome.size);
     if (!degrees.possible())
         return false;
-    library::Quotients<Field> values;
+    shared::Quotients<Field> values;
     found = Difference();
-    if (!library::find_fraction_values(field, home, dome, values))
+    if (!shared::find_fraction_values(field, home, dome, values))
         return true;
     Fraction fraction;
     return find_fraction(values.above, samples, degrees, fraction) && find_roots(fraction.numerator, found.theirs) &&

@@ -47,6 +47,7 @@ private:
         peers.push_back(plain_peer());
         peers.push_back(ntl_peer());
         peers.push_back(flint_peer());
+        peers.push_back(twin_peer());
         return peers;
     }
 

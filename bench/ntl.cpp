@@ -1,6 +1,6 @@
 // The peer that uses NTL: its arithmetic modulo a small prime, its polynomials and its root finding.
 #include "degrees.h"
-#include "library.h"
+#include "shared.h"
 #include "peer.h"
 
 #include <NTL/lzz_pX.h>
@@ -27,12 +27,17 @@ struct Field {
 
     void multiply_in(const std::uint32_t *keys, std::size_t count, std::size_t first, long *product) const
     {
-        long lane[library::lanes];
-        std::copy(product, product + library::lanes, lane);
+        long lane[shared::lanes];
+        std::copy(product, product + shared::lanes, lane);
         for (std::size_t key = 0; key < count; key++)
-            for (std::size_t i = 0; i < library::lanes; i++)
-                lane[i] = times(lane[i], library::point(first + i) - long(keys[key]));
-        std::copy(lane, lane + library::lanes, product);
+            for (std::size_t i = 0; i < shared::lanes; i++)
+                lane[i] = times(lane[i], shared::point(first + i) - long(keys[key]));
+        std::copy(lane, lane + shared::lanes, product);
+    }
+
+    long product_at(std::size_t index, const std::uint32_t *keys, std::size_t count) const
+    {
+        return shared::product_by_keys(*this, index, keys, count);
     }
 };
 
@@ -64,7 +69,7 @@ bool find_fraction(const vec_zz_p &values, const Degrees &degrees, Fraction &fou
     vec_zz_p points;
     points.SetLength(values.length());
     for (long i = 0; i < points.length(); i++)
-        points[i] = library::point(std::size_t(i));
+        points[i] = shared::point(std::size_t(i));
     Fraction earlier{NTL::BuildFromRoots(points), zz_pX()};
     Fraction later{NTL::interpolate(points, values), zz_pX(1)};
     while (degrees.middle() <= NTL::deg(later.numerator)) {
@@ -115,9 +120,9 @@ bool reconcile(const List &home, const Sketch &dome, Difference &found)
     Degrees degrees(samples, home.count, dome.size);
     if (!degrees.possible())
         return false;
-    library::Quotients<Field> values;
+    shared::Quotients<Field> values;
     found = Difference();
-    if (!library::find_fraction_values(Field(), home, dome, values))
+    if (!shared::find_fraction_values(Field(), home, dome, values))
         return true;
     Fraction fraction;
     return find_fraction(vector_of(values.above, samples), degrees, fraction) &&
@@ -131,13 +136,13 @@ public:
 
     const char *name() const override { return "NTL"; }
     std::string version() const override { return NTL_VERSION; }
-    void values(const List &list, Sketch &sketch) override { library::write_values(Field(), list, sketch); }
+    void values(const List &list, Sketch &sketch) override { shared::write_values(Field(), list, sketch); }
     bool reconcile(const List &home, const Sketch &dome, Difference &found) override
     {
         return ::reconcile(home, dome, found);
     }
-    bool add(const List &list, Sketch &sketch) override { return library::add_all(Field(), list, sketch); }
-    bool remove(const List &list, Sketch &sketch) override { return library::remove_all(Field(), list, sketch); }
+    bool add(const List &list, Sketch &sketch) override { return shared::add_all(Field(), list, sketch); }
+    bool remove(const List &list, Sketch &sketch) override { return shared::remove_all(Field(), list, sketch); }
 };
 
 } // namespace

@@ -10,8 +10,9 @@
 //      of consecutive keys, one product a key for the first point, and from a point to the next the ends of the runs
 //      alone. Divided into the dome's values they give what the fraction theirs / ours is at each point. Where it is 1
 //      everywhere and the lists are equally long, nothing differs.
-//   2. The fraction itself: two polynomials that have its values at every point. NTL and FLINT interpolate the values
-//      and break Euclid's scheme off in the middle (degrees.h); plain C++ goes point after point (plain/fraction.cpp).
+//   2. The fraction itself: two polynomials that have its values at every point. The peers interpolate the values and
+//      break Euclid's scheme off in the middle (degrees.h), plain C++ at a few points first; the twin goes point after
+//      point (twin/fraction.cpp).
 //   3. The roots of both polynomials, and whether they are keys, new at home and at home.
 #ifndef BENCH_PEER_H
 #define BENCH_PEER_H
@@ -54,5 +55,8 @@ inline bool few_runs(const List &list) { return 4 * list.runs < list.count; }
 std::unique_ptr<Peer> plain_peer();
 std::unique_ptr<Peer> ntl_peer();
 std::unique_ptr<Peer> flint_peer();
+
+// Asked to do the same, but no peer: what else the library could be, in C++ (twin/).
+std::unique_ptr<Peer> twin_peer();
 
 #endif

@@ -1,13 +1,13 @@
 // The values of sets at the sample points. Point number i, from 1, is -i, so a value is the product of -(key + i)
 // over the keys; here it is the product of key + i, which has the other sign where the keys are odd in number.
-#ifndef BENCH_PLAIN_VALUES_H
-#define BENCH_PLAIN_VALUES_H
+#ifndef BENCH_TWIN_VALUES_H
+#define BENCH_TWIN_VALUES_H
 
 #include "unit.h"
 
 #include <cstddef>
 
-namespace plain {
+namespace twin {
 
 // Whatever there is one of for each sample point, and room behind, since points are taken several at once.
 struct Units {
@@ -33,6 +33,6 @@ void settle(const Quotients &quotients, std::size_t samples, Units &made);
 // One inverse of a product serves all: each is the inverse of the product of two times the other.
 void invert(Units &units, std::size_t samples);
 
-} // namespace plain
+} // namespace twin
 
 #endif
