@@ -1,5 +1,5 @@
-// The C entries beside three peers, in one process on the same sets: every answer is checked, and the least time of
-// many runs is told.
+// The C entries beside three peers and their own twin, in one process on the same sets: every answer is checked, and
+// the least time of many runs is told.
 //
 //   bench             prints the tables
 //   bench --csv FILE  and writes the times to FILE, which plot.py draws and page.py puts into tables
@@ -41,6 +41,7 @@ public:
     void worst() const { results.print_worst(); }
 
 private:
+    // The twin comes last (results.h).
     static Peers all_peers()
     {
         Peers peers;
@@ -105,7 +106,7 @@ void Bench::add_and_remove(std::uint32_t plan, std::size_t count)
 
 void Bench::versions() const
 {
-    std::printf("Peers:");
+    std::printf("Beside us:");
     for (const auto &peer : peers)
         std::printf(" %s %s%s", peer->name(), peer->version().c_str(), peer == peers.back() ? "\n" : ",");
 }

@@ -10,7 +10,7 @@ import datetime
 import re
 import sys
 
-from plot import COLOURS, OURS, duration, read, works
+from plot import COLOURS, OURS, TWIN, duration, read, works
 
 
 def pieces(rows, table, wanted=lambda row: True):
@@ -19,13 +19,14 @@ def pieces(rows, table, wanted=lambda row: True):
 
 
 def lines(found):
-    head = ["", "list", "samples", "keys", "theirs + ours", *COLOURS, "to the fastest peer"]
+    head = ["", "list", "samples", "keys", "theirs + ours", *COLOURS, "to the fastest peer", "to the twin"]
     yield "| " + " | ".join(head) + " |"
     yield "|---|---|" + "---:|" * (len(head) - 2)
     for (operation, shape, samples, keys, theirs, ours), times in found.items():
-        ratio = times[OURS] / min(time for contestant, time in times.items() if contestant != OURS)
+        to_peer = times[OURS] / min(time for contestant, time in times.items() if contestant not in (OURS, TWIN))
         difference = f"{theirs} + {ours}" if operation == "reconcile" else ""
-        cells = [operation, shape, str(samples), f"{keys:,}", difference, *(duration(times[contestant]) for contestant in COLOURS), f"{ratio:.2f}"]
+        all_times = [duration(times[contestant]) for contestant in COLOURS]
+        cells = [operation, shape, str(samples), f"{keys:,}", difference, *all_times, f"{to_peer:.2f}", f"{times[OURS] / times[TWIN]:.2f}"]
         yield "| " + " | ".join(cells) + " |"
 
 

@@ -3,8 +3,9 @@
 
     plot.py RESULTS.csv LONG.svg SHORT.svg
 
-Two pictures, one for long lists and one for short ones. At the top of each, how long each peer takes for the work of one Vlomdar call; below,
-how the times grow with the list's length and, for long lists, with the samples. Needs nothing but Python's own library.
+Two pictures, one for long lists and one for short ones. At the top of each, how long each peer and the twin take for the work of one Vlomdar
+call; below, how the times grow with the list's length and, for long lists, with the samples. The twin is drawn thin and behind the peers. Needs
+nothing but Python's own library.
 """
 import csv
 import math
@@ -12,8 +13,9 @@ import sys
 from xml.sax.saxutils import escape
 
 OURS = "Vlomdar"
-COLOURS = {"Vlomdar": "#c8401a", "plain C++": "#3a3a3a", "NTL": "#0068a8", "FLINT": "#00805c"}
-MARKERS = {"Vlomdar": "circle", "plain C++": "square", "NTL": "triangle", "FLINT": "diamond"}
+TWIN = "twin C++"
+COLOURS = {"Vlomdar": "#c8401a", "plain C++": "#3a3a3a", "NTL": "#0068a8", "FLINT": "#00805c", "twin C++": "#9a5fb0"}
+MARKERS = {"Vlomdar": "circle", "plain C++": "square", "NTL": "triangle", "FLINT": "diamond", "twin C++": "ring"}
 BACKGROUND, INK, FAINT, GRID = "#ffffff", "#1c1c1c", "#5f5f5f", "#e3e3e3"
 FONT = "Helvetica, Arial, 'DejaVu Sans', sans-serif"
 WIDTH = 1200
@@ -29,9 +31,10 @@ class Picture:
         dashed = f' stroke-dasharray="{dash}"' if dash else ""
         self.elements.append(f'<line x1="{x1:.1f}" y1="{y1:.1f}" x2="{x2:.1f}" y2="{y2:.1f}" stroke="{colour}" stroke-width="{width}"{dashed}/>')
 
-    def path(self, points, colour, width):
+    def path(self, points, colour, width, dash=""):
         corners = " ".join(f"{x:.1f},{y:.1f}" for x, y in points)
-        self.elements.append(f'<polyline points="{corners}" fill="none" stroke="{colour}" stroke-width="{width}" stroke-linejoin="round"/>')
+        dashed = f' stroke-dasharray="{dash}"' if dash else ""
+        self.elements.append(f'<polyline points="{corners}" fill="none" stroke="{colour}" stroke-width="{width}" stroke-linejoin="round"{dashed}/>')
 
     def text(self, x, y, words, size=16, colour=INK, anchor="start", weight="normal", around=False):
         """With `around` the letters have a rim of the background, so that a line behind them does not cross them."""
@@ -42,6 +45,9 @@ class Picture:
         colour, shape = COLOURS[contestant], MARKERS[contestant]
         if shape == "circle":
             self.elements.append(f'<circle cx="{x:.1f}" cy="{y:.1f}" r="{radius}" fill="{colour}"/>')
+            return
+        if shape == "ring":
+            self.elements.append(f'<circle cx="{x:.1f}" cy="{y:.1f}" r="{0.8 * radius:.1f}" fill="{BACKGROUND}" stroke="{colour}" stroke-width="1.5"/>')
             return
         corners = {"square": [(-.9, -.9), (.9, -.9), (.9, .9), (-.9, .9)], "triangle": [(0, -1.2), (1.1, .8), (-1.1, .8)],
                    "diamond": [(0, -1.3), (1.2, 0), (0, 1.3), (-1.2, 0)]}[shape]
@@ -132,16 +138,15 @@ def ratio_axis(picture, scale, top, bottom):
 
 
 def ratio_row(picture, scale, y, name, found):
-    """One piece of work. FLINT's number stands below its marker and the others above, moved apart where they would touch."""
+    """One piece of work. FLINT's and the twin's numbers stand below their markers and the others above, moved apart where they would touch."""
     picture.text(40, y + 5, name, 17)
     picture.line(scale.start, y, scale.end, y, GRID)
-    for contestant, time in found.items():
-        picture.marker(scale(time / found[OURS]), y, contestant, 7)
-    above = [contestant for contestant in found if contestant not in (OURS, "FLINT")]
-    places = spread([scale(found[contestant] / found[OURS]) for contestant in above], 50)
-    for contestant, place in [*zip(above, places), ("FLINT", scale(found["FLINT"] / found[OURS]))]:
-        down = 24 if contestant == "FLINT" else -11
-        picture.text(place, y + down, times(found[contestant] / found[OURS]), 15, COLOURS[contestant], "middle", around=True)
+    for contestant in (TWIN, *(other for other in found if other != TWIN)):
+        picture.marker(scale(found[contestant] / found[OURS]), y, contestant, 7)
+    for down, side in ((-11, ("plain C++", "NTL")), (24, ("FLINT", TWIN))):
+        places = spread([scale(found[contestant] / found[OURS]) for contestant in side], 50)
+        for contestant, place in zip(side, places):
+            picture.text(place, y + down, times(found[contestant] / found[OURS]), 15, COLOURS[contestant], "middle", around=True)
     picture.text(WIDTH - 40, y + 5, duration(found[OURS]), 17, COLOURS[OURS], "end", "bold")
 
 
@@ -151,7 +156,7 @@ def ratios(picture, cases, top, about):
     scale = Logarithmic(min(0.5, min(all_ratios) / 1.5), max(2, max(all_ratios) * 1.5), 375, WIDTH - 150)
     height, first = 56, top + 70
     bottom = first + height * len(cases) - 26
-    picture.text(40, top, "Time of each peer, as a multiple of Vlomdar's", 21, weight="bold")
+    picture.text(40, top, "Time of each peer and of the twin, as a multiple of Vlomdar's", 21, weight="bold")
     picture.text(40, top + 24, f"{about}; right of the line: slower than Vlomdar", 16, FAINT)
     picture.text(WIDTH - 40, top + 24, "Vlomdar's time", 16, COLOURS[OURS], "end")
     ratio_axis(picture, scale, first - 28, bottom)
@@ -195,7 +200,7 @@ class Panel:
     def series(self, contestant, points):
         """Draws one contestant's line; returns the height at which it ends."""
         places = [(self.across(number), y) for number, y in points if 0 < number]
-        self.picture.path(places, COLOURS[contestant], 3 if contestant == OURS else 1.8)
+        self.picture.path(places, COLOURS[contestant], {OURS: 3, TWIN: 1}.get(contestant, 1.8), "5 3" if contestant == TWIN else "")
         for x, y in places + [(self.left, y) for number, y in points if number == 0]:
             self.picture.marker(x, y, contestant, 4.2 if contestant == OURS else 3.2)
         return places[-1][1]

@@ -7,7 +7,7 @@
 #include <string>
 #include <vector>
 
-// One piece of work, and how long each contestant took for it.
+// One piece of work, and how long each contestant took for it: first we, last the twin, between them the peers.
 struct Result {
     std::string operation;
     std::string shape; // of the list
@@ -16,6 +16,10 @@ struct Result {
     std::size_t theirs;
     std::size_t ours;
     std::vector<double> microseconds;
+
+    // Our time to the least of the peers', and to the twin's.
+    double to_best_peer() const;
+    double to_twin() const;
 };
 
 class Results {
@@ -30,21 +34,25 @@ public:
     void begin(const std::string &table, const std::string &title);
     void add(const Result &result);
 
-    // The row of each table where we are slowest beside the fastest peer.
+    // The row of each table where we are slowest beside the fastest peer, and the one beside the twin.
     void print_worst() const;
 
 private:
     struct Worst {
-        std::string table;
         double ratio;
         std::string row;
     };
 
+    struct Table {
+        std::string name;
+        Worst to_best_peer;
+        Worst to_twin;
+    };
+
     void write(const Result &result);
-    void compare(const Result &result, double ratio);
 
     std::vector<std::string> contestants;
-    std::vector<Worst> worst;
+    std::vector<Table> tables;
     std::FILE *file;
 };
 
