@@ -30,8 +30,11 @@ public:
 
     void scale(Residue factor);
 
-    // Takes the sums' places as coefficients, and no zeros at the end.
+    // Takes the sums as coefficients.
     void set(const Sum *sums, std::size_t count);
+
+    // Takes zeros from the end.
+    void trim();
 
     std::size_t length;
     Residue coefficient[most_coefficients];
@@ -42,8 +45,8 @@ bool operator==(const Polynomial &one, const Polynomial &other);
 // sums[i] += factor × coefficient[i]
 void add_multiple(Sum *sums, Residue factor, const Residue *coefficient, std::size_t count);
 
-// one += other × factor
-void add_multiple(Polynomial &one, Residue factor, const Polynomial &other);
+// one = one × factor + other × (W × upper + lower)
+void combine(Polynomial &one, Residue factor, const Polynomial &other, Residue upper, Residue lower);
 
 // one -= other × factor
 void take_product(Polynomial &one, const Polynomial &other, const Polynomial &factor);
@@ -51,12 +54,21 @@ void take_product(Polynomial &one, const Polynomial &other, const Polynomial &fa
 // What is left of the dividend takes its place, and the quotient is written if asked for. The divisor is not 0.
 void divide(Polynomial &dividend, const Polynomial &divisor, Polynomial *quotient = nullptr);
 
-// The square, or polynomial × (W + shift), after division by a monic divisor of higher degree.
-Polynomial square(const Polynomial &polynomial, const Polynomial &monic);
+// Where the divisor has a degree lower by 1, the remainder times a number is one × factor + other × (W × upper +
+// lower). No inverse is needed for that.
+struct Remainder {
+    Residue factor;
+    Residue upper;
+    Residue lower;
+
+    Remainder(const Polynomial &one, const Polynomial &other);
+};
+
+// polynomial × (W + shift), after division by a monic divisor of higher degree.
 Polynomial times_linear(const Polynomial &polynomial, Residue shift, const Polynomial &monic);
 
 // The greatest common divisor, monic. Not both are 0.
-Polynomial common_divisor(Polynomial one, Polynomial other);
+Polynomial common_divisor(const Polynomial &one, const Polynomial &other);
 
 } // namespace plain
 
