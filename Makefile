@@ -3,7 +3,7 @@
 #   make                   target/staticlib/libvlomdar.a (proves the library first) and build/exchange
 #   make check             header as C and C++, example against its expected output, entries against document 01, an installation
 #   make against           a second implementation against the archive and the night report (tests/README.md), under valgrind, and on damaged inputs
-#   make bench             times beside plain C++, NTL and FLINT, and pictures of them (docs/PERFORMANCE.md; fails only on a wrong answer)
+#   make bench             times beside plain C++, NTL, FLINT and a twin in C++, with pictures (docs/PERFORMANCE.md; fails only on a wrong answer)
 #   make figures           the same, and this run's results put into bench/results.csv, docs/performance*.svg and the tables of the page
 #   make install PREFIX=.. header, archive, vlomdar.pc, the program night_report and man pages; DESTDIR is put before PREFIX
 #   make clean             removes build/
@@ -96,7 +96,7 @@ against-memory: $(AGAINST_PROGRAM) $(REPORT)
 against-damage: $(AGAINST_PROGRAM) $(REPORT)
 	cd tests && $(AGAINST) target/release/against fuzz seconds 20
 
-# The benchmark. The peers are compiled for the processor that the archive is for, any x86-64.
+# The benchmark. The peers and the twin are compiled for the processor that the archive is for, any x86-64.
 BENCH = build/bench/bench
 BENCHFLAGS ?= -O3
 BENCH_UPDATE = target/staticlib/libbench_update.a
