@@ -3,8 +3,8 @@
 
     page.py RESULTS.csv PAGE.md
 
-A table stands between a line <!-- NAME --> and the next <!-- end -->, with NAME one of night, season, equal, update, longest, short and
-samples; what stands there before is replaced, and the day after "Measured on" with today's.
+A table stands between a line <!-- NAME --> and the next <!-- end -->, with NAME one of night, season, equal, update,
+longest, short and samples; what stands there before is replaced, and the day after "Measured on" with today's.
 """
 import datetime
 import re
@@ -26,7 +26,8 @@ def lines(found):
         to_peer = times[OURS] / min(time for contestant, time in times.items() if contestant not in (OURS, TWIN))
         difference = f"{theirs} + {ours}" if operation == "reconcile" else ""
         all_times = [duration(times[contestant]) for contestant in COLOURS]
-        cells = [operation, shape, str(samples), f"{keys:,}", difference, *all_times, f"{to_peer:.2f}", f"{times[OURS] / times[TWIN]:.2f}"]
+        ratios = [f"{to_peer:.2f}", f"{times[OURS] / times[TWIN]:.2f}"]
+        cells = [operation, shape, str(samples), f"{keys:,}", difference, *all_times, *ratios]
         yield "| " + " | ".join(cells) + " |"
 
 
@@ -41,8 +42,8 @@ def main():
     with open(sys.argv[2], encoding="utf-8") as file:
         page = file.read()
     for name, found in tables.items():
-        table = "\n".join(lines(found))
-        page = re.sub(f"<!-- {name} -->.*?<!-- end -->", lambda _: f"<!-- {name} -->\n{table}\n<!-- end -->", page, flags=re.DOTALL)
+        table = "\n".join([f"<!-- {name} -->", *lines(found), "<!-- end -->"])
+        page = re.sub(f"<!-- {name} -->.*?<!-- end -->", lambda _: table, page, flags=re.DOTALL)
     today = datetime.date.today()
     page = re.sub(r"Measured on \d+ \w+ \d+", f"Measured on {today.day} {today:%B %Y}", page)
     with open(sys.argv[2], "w", encoding="utf-8") as file:

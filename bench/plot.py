@@ -3,9 +3,9 @@
 
     plot.py RESULTS.csv LONG.svg SHORT.svg
 
-Two pictures, one for long lists and one for short ones. At the top of each, how long each peer and the twin take for the work of one Vlomdar
-call; below, how the times grow with the list's length and, for long lists, with the samples. The twin is drawn thin and behind the peers. Needs
-nothing but Python's own library.
+Two pictures, one for long lists and one for short ones. At the top of each, how long each peer and the twin take for
+the work of one Vlomdar call; below, how the times grow with the list's length and, for long lists, with the samples.
+The twin is drawn thin and behind the peers. Needs nothing but Python's own library.
 """
 import csv
 import math
@@ -29,17 +29,20 @@ class Picture:
 
     def line(self, x1, y1, x2, y2, colour, width=1.0, dash=""):
         dashed = f' stroke-dasharray="{dash}"' if dash else ""
-        self.elements.append(f'<line x1="{x1:.1f}" y1="{y1:.1f}" x2="{x2:.1f}" y2="{y2:.1f}" stroke="{colour}" stroke-width="{width}"{dashed}/>')
+        self.elements.append(f'<line x1="{x1:.1f}" y1="{y1:.1f}" x2="{x2:.1f}" y2="{y2:.1f}"'
+                             f' stroke="{colour}" stroke-width="{width}"{dashed}/>')
 
     def path(self, points, colour, width, dash=""):
         corners = " ".join(f"{x:.1f},{y:.1f}" for x, y in points)
         dashed = f' stroke-dasharray="{dash}"' if dash else ""
-        self.elements.append(f'<polyline points="{corners}" fill="none" stroke="{colour}" stroke-width="{width}" stroke-linejoin="round"{dashed}/>')
+        self.elements.append(f'<polyline points="{corners}" fill="none" stroke="{colour}" stroke-width="{width}"'
+                             f' stroke-linejoin="round"{dashed}/>')
 
     def text(self, x, y, words, size=16, colour=INK, anchor="start", weight="normal", around=False):
         """With `around` the letters have a rim of the background, so that a line behind them does not cross them."""
         rim = f' stroke="{BACKGROUND}" stroke-width="4" stroke-linejoin="round" paint-order="stroke"' if around else ""
-        self.elements.append(f'<text x="{x:.1f}" y="{y:.1f}" font-size="{size}" fill="{colour}" text-anchor="{anchor}" font-weight="{weight}"{rim}>{escape(words)}</text>')
+        self.elements.append(f'<text x="{x:.1f}" y="{y:.1f}" font-size="{size}" fill="{colour}" text-anchor="{anchor}"'
+                             f' font-weight="{weight}"{rim}>{escape(words)}</text>')
 
     def marker(self, x, y, contestant, radius):
         colour, shape = COLOURS[contestant], MARKERS[contestant]
@@ -47,15 +50,18 @@ class Picture:
             self.elements.append(f'<circle cx="{x:.1f}" cy="{y:.1f}" r="{radius}" fill="{colour}"/>')
             return
         if shape == "ring":
-            self.elements.append(f'<circle cx="{x:.1f}" cy="{y:.1f}" r="{0.8 * radius:.1f}" fill="{BACKGROUND}" stroke="{colour}" stroke-width="1.5"/>')
+            self.elements.append(f'<circle cx="{x:.1f}" cy="{y:.1f}" r="{0.8 * radius:.1f}" fill="{BACKGROUND}"'
+                                 f' stroke="{colour}" stroke-width="1.5"/>')
             return
-        corners = {"square": [(-.9, -.9), (.9, -.9), (.9, .9), (-.9, .9)], "triangle": [(0, -1.2), (1.1, .8), (-1.1, .8)],
+        corners = {"square": [(-.9, -.9), (.9, -.9), (.9, .9), (-.9, .9)],
+                   "triangle": [(0, -1.2), (1.1, .8), (-1.1, .8)],
                    "diamond": [(0, -1.3), (1.2, 0), (0, 1.3), (-1.2, 0)]}[shape]
         points = " ".join(f"{x + radius * dx:.1f},{y + radius * dy:.1f}" for dx, dy in corners)
         self.elements.append(f'<polygon points="{points}" fill="{colour}"/>')
 
     def written(self, height):
-        head = f'<svg xmlns="http://www.w3.org/2000/svg" viewBox="0 0 {WIDTH} {height}" width="{WIDTH}" height="{height}" font-family="{FONT}">'
+        head = (f'<svg xmlns="http://www.w3.org/2000/svg" viewBox="0 0 {WIDTH} {height}"'
+                f' width="{WIDTH}" height="{height}" font-family="{FONT}">')
         ground = f'<rect width="{WIDTH}" height="{height}" rx="10" fill="{BACKGROUND}"/>'
         return "\n".join([head, ground, *self.elements, "</svg>"]) + "\n"
 
@@ -71,7 +77,8 @@ class Logarithmic:
         return self.start + part * (self.end - self.start)
 
     def powers_of_ten(self):
-        return [10.0 ** n for n in range(math.ceil(math.log10(self.least) - 1e-9), math.floor(math.log10(self.most) + 1e-9) + 1)]
+        lowest, highest = math.ceil(math.log10(self.least) - 1e-9), math.floor(math.log10(self.most) + 1e-9)
+        return [10.0 ** n for n in range(lowest, highest + 1)]
 
 
 def read(name):
@@ -97,7 +104,7 @@ def times(ratio):
 
 
 def spread(places, distance):
-    """The same places, moved on where they would stand nearer to each other than the distance, and then back again as a whole."""
+    """The same places, moved on where they would stand nearer than the distance, and then back again as a whole."""
     order = sorted(range(len(places)), key=lambda i: places[i])
     moved = dict(enumerate(places))
     for before, after in zip(order, order[1:]):
@@ -133,12 +140,13 @@ def work_name(operation, shape, samples, keys, theirs, ours):
 def ratio_axis(picture, scale, top, bottom):
     for tick in (0.001, 0.003, 0.01, 0.03, 0.1, 0.3, 1, 3, 10, 30, 100, 300):
         if scale.least <= tick <= scale.most:
-            picture.line(scale(tick), top, scale(tick), bottom, COLOURS[OURS] if tick == 1 else GRID, 2 if tick == 1 else 1)
+            colour, width = (COLOURS[OURS], 2) if tick == 1 else (GRID, 1)
+            picture.line(scale(tick), top, scale(tick), bottom, colour, width)
             picture.text(scale(tick), bottom + 20, f"{tick:g}×", 15, FAINT, "middle")
 
 
 def ratio_row(picture, scale, y, name, found):
-    """One piece of work. FLINT's and the twin's numbers stand below their markers and the others above, moved apart where they would touch."""
+    """One piece of work. FLINT's and the twin's numbers stand below, the others above, apart where they would touch."""
     picture.text(40, y + 5, name, 17)
     picture.line(scale.start, y, scale.end, y, GRID)
     for contestant in (TWIN, *(other for other in found if other != TWIN)):
@@ -146,7 +154,8 @@ def ratio_row(picture, scale, y, name, found):
     for down, side in ((-11, ("plain C++", "NTL")), (24, ("FLINT", TWIN))):
         places = spread([scale(found[contestant] / found[OURS]) for contestant in side], 50)
         for contestant, place in zip(side, places):
-            picture.text(place, y + down, times(found[contestant] / found[OURS]), 15, COLOURS[contestant], "middle", around=True)
+            number = times(found[contestant] / found[OURS])
+            picture.text(place, y + down, number, 15, COLOURS[contestant], "middle", around=True)
     picture.text(WIDTH - 40, y + 5, duration(found[OURS]), 17, COLOURS[OURS], "end", "bold")
 
 
@@ -174,17 +183,20 @@ class Panel:
 
     def draw(self, rows, column, ticks):
         least, most = min(row["microseconds"] for row in rows), max(row["microseconds"] for row in rows)
-        self.vertical = Logarithmic(10 ** math.floor(math.log10(least)), 10 ** math.ceil(math.log10(most)), self.bottom, self.top)
+        lowest, highest = math.floor(math.log10(least)), math.ceil(math.log10(most))
+        self.vertical = Logarithmic(10 ** lowest, 10 ** highest, self.bottom, self.top)
         numbers = [row[column] for row in rows if 0 < row[column]]
         with_zero = any(row[column] == 0 for row in rows)
         self.across = Logarithmic(min(numbers), max(numbers), self.left + (32 if with_zero else 0), self.right)
         self.axes(ticks)
         ends = []
         for contestant in reversed(COLOURS):
-            points = [(row[column], self.vertical(row["microseconds"])) for row in rows if row["contestant"] == contestant]
+            mine = [row for row in rows if row["contestant"] == contestant]
+            points = [(row[column], self.vertical(row["microseconds"])) for row in mine]
             ends.append((contestant, self.series(contestant, points)))
         for (contestant, _), y in zip(ends, spread([y for _, y in ends], 17)):
-            self.picture.text(self.right + 10, y + 5, contestant, 15, COLOURS[contestant], weight="bold" if contestant == OURS else "normal")
+            weight = "bold" if contestant == OURS else "normal"
+            self.picture.text(self.right + 10, y + 5, contestant, 15, COLOURS[contestant], weight=weight)
 
     def axes(self, ticks):
         self.picture.text(self.left - 50, self.top - 14, self.title, 17, weight="bold")
@@ -200,21 +212,24 @@ class Panel:
     def series(self, contestant, points):
         """Draws one contestant's line; returns the height at which it ends."""
         places = [(self.across(number), y) for number, y in points if 0 < number]
-        self.picture.path(places, COLOURS[contestant], {OURS: 3, TWIN: 1}.get(contestant, 1.8), "5 3" if contestant == TWIN else "")
+        width, dash = {OURS: (3, ""), TWIN: (1, "5 3")}.get(contestant, (1.8, ""))
+        self.picture.path(places, COLOURS[contestant], width, dash)
         for x, y in places + [(self.left, y) for number, y in points if number == 0]:
             self.picture.marker(x, y, contestant, 4.2 if contestant == OURS else 3.2)
         return places[-1][1]
 
 
 def growth(picture, rows, top):
-    """Sketch above, reconcile below; over the keys at 16 and 64 samples, and over the samples. Returns the lower edge."""
+    """Sketch above, reconcile below; over the keys at 16 and 64 samples, and over the samples. Returns the lower edge.
+    """
     picture.text(40, top, "How the time grows, random keys", 21, weight="bold")
     top += 16
     for operation in ("sketch", "reconcile"):
         mine = [row for row in rows if row["operation"] == operation]
         for index, samples in enumerate((16, 64)):
             panel = Panel(picture, 30 + 385 * index, top, f"{operation}, m = {samples}", "keys of the list")
-            panel.draw([row for row in mine if row["table"] == "keys" and row["samples"] == samples], "keys", (0, 1, 10, 100, 1000, 16384))
+            wanted = [row for row in mine if row["table"] == "keys" and row["samples"] == samples]
+            panel.draw(wanted, "keys", (0, 1, 10, 100, 1000, 16384))
         panel = Panel(picture, 30 + 385 * 2, top, f"{operation}, 16,384 keys", "samples m")
         panel.draw([row for row in mine if row["table"] == "samples"], "samples", (1, 2, 4, 8, 16, 32, 64))
         top += 318
@@ -228,8 +243,9 @@ def short_growth(picture, rows, top):
     for samples in (16, 64):
         for index, operation in enumerate(("sketch", "reconcile")):
             panel = Panel(picture, 30 + 580 * index, top, f"{operation}, m = {samples}", "keys of the list", 430)
-            wanted = [row for row in rows if row["table"] == "keys" and row["operation"] == operation and row["samples"] == samples]
-            panel.draw([row for row in wanted if row["keys"] <= 1000], "keys", (0, 1, 10, 100, 1000))
+            mine = [row for row in rows if row["table"] == "keys" and row["operation"] == operation]
+            wanted = [row for row in mine if row["samples"] == samples and row["keys"] <= 1000]
+            panel.draw(wanted, "keys", (0, 1, 10, 100, 1000))
         top += 318
     return top
 
