@@ -252,19 +252,19 @@ static void reconcile_refusals(void)
     free(many);
 }
 
-/* The largest plan with as many differences as it has samples: 32 on each side. */
+/* The largest plan with as many differences as it has samples, 32 on each side, and the longest lists, which are not in runs. */
 static uint32_t theirs_due[32], ours_due[32];
-static uint8_t dome_list[4000], home_list[4000], longest[VLOMDAR_LONGEST_MESSAGE], their_room[256], our_room[256];
+static uint8_t dome_list[4 * 16384], home_list[4 * 16384], longest[VLOMDAR_LONGEST_MESSAGE], their_room[256], our_room[256];
 
 static void largest(void)
 {
-    for (uint32_t i = 0; i < 1000; i++) {
-        int differs = i % 31 == 0 && i / 31 < 32;
-        vlomdar_put_key(dome_list, i, 64 * i + (differs ? 1 : 0));
-        vlomdar_put_key(home_list, i, 64 * i + (differs ? 2 : 0));
+    for (uint32_t i = 0; i < 16384; i++) {
+        int differs = i % 512 == 0;
+        vlomdar_put_key(dome_list, i, 3 * i + (differs ? 1 : 0));
+        vlomdar_put_key(home_list, i, 3 * i + (differs ? 2 : 0));
         if (differs) {
-            theirs_due[i / 31] = 64 * i + 1;
-            ours_due[i / 31] = 64 * i + 2;
+            theirs_due[i / 512] = 3 * i + 1;
+            ours_due[i / 512] = 3 * i + 2;
         }
     }
     check(vlomdar_sketch(15, dome_list, sizeof dome_list, longest, sizeof longest) == packed(0, 0, 139, 0), "largest plan");
