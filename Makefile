@@ -18,6 +18,20 @@ CXXFLAGS ?= -O2 -g
 WARN = -Wall -Wextra -Wpedantic -Werror
 VERSION = 1.0.0
 
+# The archive and the programs are for x86-64. On another processor the tests are compiled for x86-64 too, and an emulator runs them: the same
+# answers, by Debian's packages gcc-x86-64-linux-gnu, qemu-user, cargo, rustc and libstd-rust-dev:amd64. Times and valgrind are for x86-64 alone.
+ifeq ($(shell uname -m),x86_64)
+EMULATOR =
+CARGO = cargo
+MEMORY = valgrind --quiet --error-exitcode=9
+else
+EMULATOR = qemu-x86_64
+CC = x86_64-linux-gnu-gcc
+RUST_TARGET = x86_64-unknown-linux-gnu
+CARGO = RUSTC=/usr/bin/rustc CARGO_TARGET_X86_64_UNKNOWN_LINUX_GNU_LINKER=$(CC) /usr/bin/cargo
+MEMORY = echo "not x86-64: no valgrind" && $(EMULATOR)
+endif
+
 ARCHIVE = target/staticlib/libvlomdar.a
 REPORT = target/bin/night_report
 SOURCES = crates.txt $(shell find crates -name '*.rt' -o -name '*.antt')
@@ -58,43 +72,48 @@ check-header: build/header_example.h
 	$(CXX) -x c++ -std=c++11 $(WARN) -Iinclude -Ibuild -fsyntax-only tests/c/header.c
 
 check-example: build/exchange
-	build/exchange > build/exchange.out
+	$(EMULATOR) build/exchange > build/exchange.out
 	diff -u examples/exchange.expected build/exchange.out
 
 check-entries: build/entries
-	build/entries
+	$(EMULATOR) build/entries
 
 # Installs into build/root and builds the example from there, by pkg-config alone.
 check-install: $(ARCHIVE) $(REPORT) | build
 	rm -rf build/root
 	$(MAKE) --no-print-directory install PREFIX=$(CURDIR)/build/root DESTDIR=
 	$(CC) -std=c99 $(WARN) -o build/exchange-installed examples/exchange.c $$(PKG_CONFIG_PATH=build/root/lib/pkgconfig pkg-config --cflags --libs vlomdar)
-	build/exchange-installed | diff -u examples/exchange.expected -
-	build/root/bin/night_report < crates/night_report/stdin | diff -u crates/night_report/stdout -
+	$(EMULATOR) build/exchange-installed | diff -u examples/exchange.expected -
+	$(EMULATOR) build/root/bin/night_report < crates/night_report/stdin | diff -u crates/night_report/stdout -
 
 # Another way to the same answers: thousands of random calls, every byte of every buffer compared.
-AGAINST = VLOMDAR_LIB=$(CURDIR)/target/staticlib VLOMDAR_REPORT=$(CURDIR)/$(REPORT)
+AGAINST = VLOMDAR_REPORT=$(CURDIR)/build/night_report
 
 against: against-itself against-calls against-memory against-damage
 	@echo "second implementation: all checks passed"
 
-AGAINST_PROGRAM = tests/target/release/against
+AGAINST_PROGRAM = tests/target/$(if $(RUST_TARGET),$(RUST_TARGET)/)release/against
 
 $(AGAINST_PROGRAM): $(ARCHIVE) $(shell find tests/second tests/against -name '*.rs' -o -name Cargo.toml)
-	cd tests && VLOMDAR_LIB=$(CURDIR)/target/staticlib cargo build --offline --quiet --release -p against
+	cd tests && VLOMDAR_LIB=$(CURDIR)/target/staticlib $(CARGO) build --offline --quiet --release -p against $(if $(RUST_TARGET),--target $(RUST_TARGET))
 	touch $@
 
+# The night report as a program that this machine can start.
+build/night_report: $(REPORT) | build
+	printf '#!/bin/sh\nexec %s\n' '$(EMULATOR) $(CURDIR)/$(REPORT)' > $@
+	chmod +x $@
+
 against-itself:
-	cd tests && cargo test --offline --quiet -p second
+	cd tests && $(CARGO) test --offline --quiet -p second
 
-against-calls: $(AGAINST_PROGRAM) $(REPORT)
-	cd tests && $(AGAINST) target/release/against
+against-calls: $(AGAINST_PROGRAM) build/night_report
+	$(AGAINST) $(EMULATOR) $(AGAINST_PROGRAM)
 
-against-memory: $(AGAINST_PROGRAM) $(REPORT)
-	cd tests && $(AGAINST) valgrind --quiet --error-exitcode=9 target/release/against short
+against-memory: $(AGAINST_PROGRAM) build/night_report
+	$(AGAINST) $(MEMORY) $(AGAINST_PROGRAM) short
 
-against-damage: $(AGAINST_PROGRAM) $(REPORT)
-	cd tests && $(AGAINST) target/release/against fuzz seconds 20
+against-damage: $(AGAINST_PROGRAM) build/night_report
+	$(AGAINST) $(EMULATOR) $(AGAINST_PROGRAM) fuzz seconds 20
 
 # The benchmark. The peers and the twin are compiled for the processor that the archive is for, any x86-64.
 BENCH = build/bench/bench
@@ -103,6 +122,7 @@ BENCH_UPDATE = target/staticlib/libbench_update.a
 BENCH_OBJECTS = $(patsubst %.cpp,build/%.o,$(wildcard bench/*.cpp bench/plain/*.cpp bench/twin/*.cpp))
 
 bench-packages:
+	@test -z "$(EMULATOR)" || { echo "The archive is for x86-64: on another processor there is nothing to time." >&2; exit 1; }
 	@sh bench/packages.sh $(CXX)
 
 # The running sketch has no C entry; this archive makes it callable for the benchmark alone.

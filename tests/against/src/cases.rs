@@ -69,7 +69,7 @@ fn written(tally: &mut Tally, keys: &[u32], hex: &str) {
 fn sampled(tally: &mut Tally, plan: u32, keys: &[u32], sample: usize, value: u64) {
     let (answer, buffer) = tally.sketch(plan, &bytes_of(keys), &[0; 139]);
     let sketch = message::read(&buffer[..usize::from(answer.first)]);
-    let holds = sketch.is_ok_and(|sketch| sketch.values[sample] == value && sketch.size == keys.len());
+    let holds = sketch.map_or(false, |sketch| sketch.values[sample] == value && sketch.size == keys.len());
     tally.check(holds, || format!("value {sample} of {keys:?} at plan {plan} is not {value}: {answer:?}"));
 }
 

@@ -26,7 +26,7 @@ pub fn stored(tally: &mut Tally, program: Option<&Program>) {
 fn inputs() -> Vec<PathBuf> {
     let folder = Path::new(env!("CARGO_MANIFEST_DIR")).join("../report");
     let entries = std::fs::read_dir(&folder).expect("the folder of stored reports");
-    let mut paths: Vec<PathBuf> = entries.map(|entry| entry.unwrap().path()).filter(|path| path.extension().is_some_and(|e| e == "in")).collect();
+    let mut paths: Vec<PathBuf> = entries.map(|entry| entry.unwrap().path()).filter(|path| path.extension().map_or(false, |e| e == "in")).collect();
     assert!(!paths.is_empty());
     paths.sort();
     paths

@@ -5,7 +5,7 @@ use crate::sketch::{Sketch, MOST_KEYS, SAMPLES};
 
 /// Length in bytes of the message of a plan.
 pub fn length(plan: usize) -> usize {
-    (23 + 17 * SAMPLES[plan]).div_ceil(8)
+    (23 + 17 * SAMPLES[plan] + 7) / 8
 }
 
 pub fn write(sketch: &Sketch) -> Vec<u8> {
