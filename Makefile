@@ -29,7 +29,7 @@ EMULATOR = qemu-x86_64
 CC = x86_64-linux-gnu-gcc
 RUST_TARGET = x86_64-unknown-linux-gnu
 CARGO = RUSTC=/usr/bin/rustc CARGO_TARGET_X86_64_UNKNOWN_LINUX_GNU_LINKER=$(CC) /usr/bin/cargo
-MEMORY = echo "not x86-64: no valgrind" && $(EMULATOR)
+MEMORY = $(EMULATOR)
 endif
 
 ARCHIVE = target/staticlib/libvlomdar.a

@@ -1,7 +1,5 @@
 -- From the dome's list to the sketch that home reads.
 --
---   known, known-plan      a request names a plan exactly where the code that it means is one
---   taken, accepted        a sketch that is not refused is that of a legal list under a plan, and the other way round
 --   fits, carried          what is written has room, and what is read of it is the sketch
 --   sent, sent-tells, refused, refused-tells       the two outcomes, and what demand 3 says of each
 --
@@ -29,38 +27,10 @@ use Rattle.rules.specs.declared.Refusal.the-variants.{UnknownPlan}
 use Rattle.rules.specs.declared.Answer.{Answer}
 use Rattle.rules.specs.declared.Answer.the-variants.{Done, Refused}
 use Rattle.sketch.specs.Formed.{legal-formed}
+use Rattle.sketch.specs.Requested.{taken}
 use Rattle.message.specs.RoundTrip.{Reads, length-message, read-written}
 use Rattle.promises.specs.Demands.{Within, Tells, demand-3-sketch}
 use Rattle.exchange.specs.Exchanged.{Sent, Exchanges}
-
-pub known-plan : (request : ℕ) → unknownPlan request ≡ false → planOf request < plans
-known-plan request e = go (eqb request usualRequest) (ltb request plans) refl e
-  where
-    go : (u k : Bool) → ltb request plans ≡ k → not k && not u ≡ false → cond u usualPlan request < plans
-    go true k h e = lit< tt
-    go false true h e = ltb-true request plans h
-    go false false h e = let z : _≡_ {A = ℕ} 0 1 = cc in absurd (omega arith)
-
-pub known : (request : ℕ) → planOf request < plans → unknownPlan request ≡ false
-known request l = go (eqb request usualRequest) l
-  where
-    go : (u : Bool) → cond u usualPlan request < plans → not (ltb request plans) && not u ≡ false
-    go true l = and-false (not (ltb request plans))
-      where
-        and-false : (b : Bool) → b && false ≡ false
-        and-false true = refl
-        and-false false = refl
-    go false l = rw (lt-ltb request plans l)
-
-pub taken : (request : ℕ) (dome : List ℕ) → sketchAnswer request dome ≡ Done → (planOf request < plans) × LegalList dome
-unfolding sketchAnswer
-taken request dome e =
-    let p = then-done (when (unknownPlan request) UnknownPlan) (listAnswer dome) e in
-    (known-plan request (when-done (unknownPlan request) UnknownPlan (p .0)), legal dome (p .1))
-
-pub accepted : (request : ℕ) (dome : List ℕ) → planOf request < plans → LegalList dome → sketchAnswer request dome ≡ Done
-unfolding sketchAnswer
-accepted request dome l h = done-then (when (unknownPlan request) UnknownPlan) (listAnswer dome) (done-when (unknownPlan request) UnknownPlan (known request l)) (passes dome h)
 
 -- the sketch that a request which is not refused makes
 made : (request : ℕ) (dome : List ℕ) (s : Sketch) → sketchAnswer request dome ≡ Done → s ≡ sketchResult request dome → s ≡ sketchOf (planOf request) dome

@@ -4,14 +4,36 @@ use rules::Refusal;
 use rules::Sketch;
 use rules::Sketched;
 ghost use mathlib.Core.Path.{_≡_};
+ghost use mathlib.Core.Bool.{true};
 ghost use lib.ListN.{length};
-ghost use Rattle.rules.specs.Sketches.{blank};
+ghost use Rattle.rules.specs.Sketches.{blank, wellFormed};
+ghost use Rattle.rules.specs.Filled.{sketchFrom};
 ghost use Rattle.rules.specs.Calls.{writeAnswer, writeLength, writeBuffer, readAnswer, readResult};
 
 // What a write answers, and the length of the message that it wrote, 0 if it refused.
 pub struct Written {
     pub answer: Answer,
     pub length: usize,
+}
+
+// The message of a sketch that is well-formed, by its parts: "Write: .. 5." What was just made needs no test.
+pub fn write_formed(plan: u8, size: u32, values: &[u32], buffer: &mut [u8]) -> Written
+    requires { ⌜ wellFormed (sketchFrom plan size (now values)) ≡ true ⌝ }
+    ensures { λ r. ⌜ (r .answer ≡ writeAnswer (sketchFrom plan size (now (values .entry))) (length (now (buffer .entry)))) × (r .length ≡ writeLength (sketchFrom plan size (now (values .entry))) (length (now (buffer .entry)))) × (now (buffer .exit) ≡ writeBuffer (sketchFrom plan size (now (values .entry))) (now (buffer .entry))) ⌝ }
+{
+    let m = plan::samples(plan);
+    let n = packing::message_length(m);
+    if buffer.len() < n {
+        return Written {
+            answer: Answer::Refused(Refusal::ShortBuffer(0)),
+            length: 0,
+        };
+    }
+    packing::fill(plan as u32, size, &values[..m], &mut buffer[..n]);
+    Written {
+        answer: Answer::Done,
+        length: n,
+    }
 }
 
 // "Write: 6, 5." A refused write leaves the buffer; else the message fills its first bytes and the rest stays.
@@ -26,20 +48,7 @@ pub fn write(s: Sketch, buffer: &mut [u8]) -> Written
     }
     let plan = s.plan;
     let size = s.size;
-    let values = s.values;
-    let m = plan::samples(plan);
-    let n = packing::message_length(m);
-    if buffer.len() < n {
-        return Written {
-            answer: Answer::Refused(Refusal::ShortBuffer(0)),
-            length: 0,
-        };
-    }
-    packing::fill(plan as u32, size, &values[..m], &mut buffer[..n]);
-    Written {
-        answer: Answer::Done,
-        length: n,
-    }
+    write_formed(plan, size, &s.values, buffer)
 }
 
 // A read that is refused gives the blank sketch.

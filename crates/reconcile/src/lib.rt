@@ -3,6 +3,7 @@ use rules::Answer;
 use rules::Refusal;
 use rules::Sketch;
 ghost use mathlib.Core.Path.{_≡_};
+ghost use Rattle.rules.specs.Sketches.{wellFormed};
 ghost use Rattle.rules.specs.Calls.{listAnswer, reconcileTests};
 ghost use Rattle.rules.specs.Reconciling.{Reconciles};
 
@@ -13,12 +14,12 @@ pub struct Reconciled {
     pub ours: usize,
 }
 
-// The refusals that come before a difference is looked for, in their order. That of the list is handed in.
-fn tests(s: Sketch, home: &[u32], list: Answer, theirs: usize, ours: usize) -> Answer
-    requires { ⌜ list ≡ listAnswer (now home) ⌝ }
+// The refusals that come before a difference is looked for, in their order. Whether the sketch is well-formed and the answer of the list are handed in.
+fn tests(s: Sketch, formed: bool, home: &[u32], list: Answer, theirs: usize, ours: usize) -> Answer
+    requires { ⌜ (formed ≡ wellFormed s) × (list ≡ listAnswer (now home)) ⌝ }
     ensures { λ r. ⌜ r ≡ reconcileTests s (now (home .entry)) theirs ours ⌝ }
 {
-    if !plan::well_formed(s) {
+    if !formed {
         return Answer::Refused(Refusal::MalformedSketch);
     }
     if let Answer::Refused(_) = list {
@@ -40,18 +41,19 @@ fn tests(s: Sketch, home: &[u32], list: Answer, theirs: usize, ours: usize) -> A
 }
 
 // What each side lacks: the keys that are new at home in the first entries of theirs, those that the dome lacks in those of ours. Both lists are found in
-// arrays of this call and copied once, on success: a refusal leaves both buffers as they were. The list's own test has been made by the caller.
+// arrays of this call and copied once, on success: a refusal leaves both buffers as they were. The tests of the sketch and of the list have been made by the caller.
 pub fn reconcile_told(
     s: Sketch,
+    formed: bool,
     home: &[u32],
     list: Answer,
     theirs: &mut [u32],
     ours: &mut [u32],
 ) -> Reconciled
-    requires { ⌜ list ≡ listAnswer (now home) ⌝ }
+    requires { ⌜ (formed ≡ wellFormed s) × (list ≡ listAnswer (now home)) ⌝ }
     ensures { λ r. ⌜ Reconciles s (now (home .entry)) (now (theirs .entry)) (now (ours .entry)) (record { answer = r .answer; theirs-count = r .theirs; ours-count = r .ours; theirs = now (theirs .exit); ours = now (ours .exit) }) ⌝ }
 {
-    let answer = tests(s, home, list, theirs.len(), ours.len());
+    let answer = tests(s, formed, home, list, theirs.len(), ours.len());
     if let Answer::Refused(_) = answer {
         return Reconciled {
             answer,
@@ -80,9 +82,10 @@ pub fn reconcile_told(
     }
 }
 
-// The same of a list of which nothing is known.
+// The same of a sketch and a list of which nothing is known.
 pub fn reconcile(s: Sketch, home: &[u32], theirs: &mut [u32], ours: &mut [u32]) -> Reconciled
     ensures { λ r. ⌜ Reconciles s (now (home .entry)) (now (theirs .entry)) (now (ours .entry)) (record { answer = r .answer; theirs-count = r .theirs; ours-count = r .ours; theirs = now (theirs .exit); ours = now (ours .exit) }) ⌝ }
 {
-    reconcile_told(s, home, list::answer(home), theirs, ours)
+    let formed = plan::well_formed(s);
+    reconcile_told(s, formed, home, list::answer(home), theirs, ours)
 }
