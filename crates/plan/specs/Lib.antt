@@ -1,2 +1,2 @@
--- What a count of bad slots tells: Counted.
-pub mod Counted
+-- What numbers tell of bad slots: Faults.
+pub mod Faults

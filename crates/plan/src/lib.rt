@@ -7,13 +7,13 @@ use rules::Sketch;
 use rules::USUAL_PLAN;
 use rules::USUAL_REQUEST;
 ghost use mathlib.Core.Path.{_≡_};
-ghost use mathlib.Core.Bool.{false, cond};
-ghost use Prim.Native.Nat.{ℕ, _≤_, _<_};
+ghost use mathlib.Core.Bool.{false};
+ghost use Prim.Native.Nat.{_≤_};
 ghost use lib.ListN.{length};
 ghost use Rattle.rules.specs.Numbers.{mostSamples, samples, planOf, unknownPlan};
-ghost use Rattle.rules.specs.Sketches.{blank, goodSlot, wellFormed};
+ghost use Rattle.rules.specs.Sketches.{blank, wellFormed};
 ghost use Rattle.rules.specs.Filled.{sketchFrom};
-ghost use Rattle.plan.specs.Counted.{Counted};
+ghost use Rattle.plan.specs.Faults.{Value, Unused, Fault, Faults};
 
 // m for each plan code, in bytes: the table is copied wherever it is used.
 const SAMPLES: [u8; 16] = [1, 2, 3, 4, 6, 8, 10, 12, 16, 20, 24, 28, 32, 40, 48, 64];
@@ -53,50 +53,36 @@ pub fn code_of(request: u32) -> u8
     }
 }
 
-// Whether v may stand in a slot of a sample.
-fn good_value(v: u32) -> bool
-    ensures { λ r. ⌜ ((m i : ℕ) → i < m → r ≡ goodSlot m i v) ⌝ }
-{
-    if 0 < v { v < Residue::MODULUS } else { false }
-}
-
-// 1 where v may not stand in a slot of a sample, else 0: a number, so that slots are counted and none makes a branch.
+// 0 where v may stand in a slot of a sample, and nowhere else: v − 1 is below p − 1. A number, so that no slot makes a branch.
 fn bad_value(v: u32) -> u32
-    ensures { λ r. ⌜ ((m i : ℕ) → i < m → r ≡ cond (goodSlot m i v) 0 1) ⌝ }
+    ensures { λ r. ⌜ Fault Value v r ⌝ }
 {
-    if good_value(v) { 0 } else { 1 }
+    std::num::wrapping_sub_u32(v, 1) / (Residue::MODULUS - 1)
 }
 
-// The same for the slots after those.
-fn bad_rest(v: u32) -> u32
-    ensures { λ r. ⌜ ((m i : ℕ) → m ≤ i → r ≡ cond (goodSlot m i v) 0 1) ⌝ }
-{
-    if v == 0 { 0 } else { 1 }
-}
-
-// How many of the first m slots are bad.
+// 0 where the first m slots are good, and nowhere else.
 fn bad_values(m: usize, values: &[u32; MOST_SAMPLES]) -> u32
     requires { ⌜ m ≤ mostSamples ⌝ }
-    ensures { λ r. ⌜ Counted m 0 m (now (values .entry)) r ⌝ }
+    ensures { λ r. ⌜ Faults Value 0 m (now (values .entry)) r ⌝ }
 {
     let mut bad = 0;
     let mut i = 0;
     while i < m {
-        bad += bad_value(values[i]);
+        bad |= bad_value(values[i]);
         i += 1;
     }
     bad
 }
 
-// How many of the others are.
+// The same for the others, which are all 0.
 fn bad_rests(m: usize, values: &[u32; MOST_SAMPLES]) -> u32
     requires { ⌜ m ≤ mostSamples ⌝ }
-    ensures { λ r. ⌜ Counted m m mostSamples (now (values .entry)) r ⌝ }
+    ensures { λ r. ⌜ Faults Unused m mostSamples (now (values .entry)) r ⌝ }
 {
     let mut bad = 0;
     let mut i = m;
     while i < MOST_SAMPLES {
-        bad += bad_rest(values[i]);
+        bad |= values[i];
         i += 1;
     }
     bad
@@ -115,7 +101,7 @@ pub fn formed(plan: u8, size: u32, values: &[u32; MOST_SAMPLES]) -> bool
         return false;
     }
     let m = samples(plan);
-    bad_values(m, values) + bad_rests(m, values) == 0
+    bad_values(m, values) | bad_rests(m, values) == 0
 }
 
 // Whether a sketch is well-formed: 64 slots it has by its type.

@@ -2,5 +2,6 @@
 pub mod Changes
 pub mod Updates
 pub mod Inverses
+pub mod Pairs
 pub mod Accepted
 pub mod Running

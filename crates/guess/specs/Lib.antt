@@ -1,0 +1,2 @@
+-- What the guess answers: Guessed.
+pub mod Guessed
