@@ -1,6 +1,7 @@
 -- A field of a message by the bytes that it lies in.
 --
 --   byteIn b i             byte i; 0 past the end
+--   joined x y z, joinedFour x y z w       three bytes, and four, as one number
 --   field-part             a field that stands in a wider one is a quotient's remainder
 --   field-three            at most 17 bits from any bit on, by three bytes
 --   field-four, field-eight    four bytes as a number, and eight
@@ -29,6 +30,13 @@ byteIn b i = getD b i 0 % 2 ^ 8
 same : (x y z : ℕ) → x * 2 ^ 16 + (y * 2 ^ 8 + z) ≡ joined x y z
 same x y z = omega arith
 
+-- and four
+abbrev pub joinedFour : ℕ → ℕ → ℕ → ℕ → ℕ
+joinedFour x y z w = 2 ^ 24 * x + 2 ^ 16 * y + 2 ^ 8 * z + w
+
+same-four : (x y z w : ℕ) → 2 ^ 24 * x + (2 ^ 16 * y + (2 ^ 8 * z + w)) ≡ joinedFour x y z w
+same-four x y z w = omega arith
+
 module _ (b : List ℕ) where
   pub field-part : (at off w rest : ℕ) → fieldAt b (at + off) w ≡ fieldAt b at (off + (w + rest)) / 2 ^ rest % 2 ^ w
   unfolding fieldAt
@@ -54,11 +62,12 @@ module _ (b : List ℕ) where
   unfolding fieldAt
   byte-last i = all-entry 8 i b
 
-  pub field-four : (j : ℕ) → fieldAt b (8 * j) 32 ≡ 2 ^ 24 * byteIn b j + (2 ^ 16 * byteIn b (j + 1) + (2 ^ 8 * byteIn b (j + 2) + byteIn b (j + 3)))
+  pub field-four : (j : ℕ) → fieldAt b (8 * j) 32 ≡ joinedFour (byteIn b j) (byteIn b (j + 1)) (byteIn b (j + 2)) (byteIn b (j + 3))
   field-four j =
       byte-first j (j + 1) 24 (omega arith)
       ∙ ap (λ (x : ℕ). 2 ^ 24 * byteIn b j + x) (byte-first (j + 1) (j + 2) 16 (omega arith)
       ∙ ap (λ (x : ℕ). 2 ^ 16 * byteIn b (j + 1) + x) (byte-first (j + 2) (j + 3) 8 (omega arith) ∙ ap (λ (x : ℕ). 2 ^ 8 * byteIn b (j + 2) + x) (byte-last (j + 3))))
+      ∙ same-four (byteIn b j) (byteIn b (j + 1)) (byteIn b (j + 2)) (byteIn b (j + 3))
 
   pub field-eight : (j : ℕ) → fieldAt b (8 * j) 64 ≡ 2 ^ 32 * fieldAt b (8 * j) 32 + fieldAt b (8 * (j + 4)) 32
   unfolding fieldAt

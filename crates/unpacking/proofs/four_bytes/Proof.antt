@@ -1,9 +1,9 @@
 -- `unpacking::four_bytes` meets its contract, by `field-four`. Assumes nothing.
 use mathlib.Core.Path.{sym, ap₂, _∙_}
-use Prim.Native.Nat.{ℕ, _+_, _*_, _-_, _^_}
+use Prim.Native.Nat.{ℕ, _+_, _-_}
 use native.Mathlib.Omega.{arith}
 use borrow.Author.Needs.{needs}
-use Rattle.unpacking.proofs.Fields.{byteIn, field-four}
+use Rattle.unpacking.proofs.Fields.{joinedFour, byteIn, field-four}
 use Rattle.unpacking.proofs.four_bytes.Statement.{statement}
 use Rattle.unpacking.proofs.four_bytes.Tie as tie
 
@@ -46,11 +46,11 @@ mul-result c = search needs
 mul-result-2 : tie.Need-mul-result-2
 mul-result-2 c = search needs
 
-mul-result-3 : tie.Need-mul-result-3
-mul-result-3 c = search needs
-
 add-result : tie.Need-add-result
 add-result c = search needs
+
+mul-result-3 : tie.Need-mul-result-3
+mul-result-3 c = search needs
 
 add-result-2 : tie.Need-add-result-2
 add-result-2 c = search needs
@@ -66,8 +66,8 @@ returns c =
     let y = c .before .before .before .before .wide2 in
     let z = c .before .before .wide3 in
     let w = c .wide4 in (
-      ap₂ (λ (n m : ℕ). 2 ^ 24 * n + (2 ^ 16 * m + (2 ^ 8 * z .result + w .result))) (x .ensures .0) (y .ensures .0)
-          ∙ ap₂ (λ (n m : ℕ). 2 ^ 24 * byteIn b (a .j) + (2 ^ 16 * byteIn b (a .j + 1) + (2 ^ 8 * n + m))) (z .ensures .0) (w .ensures .0)
+      ap₂ (λ (n m : ℕ). joinedFour n m (z .result) (w .result)) (x .ensures .0) (y .ensures .0)
+          ∙ ap₂ (λ (n m : ℕ). joinedFour (byteIn b (a .j)) (byteIn b (a .j + 1)) n m) (z .ensures .0) (w .ensures .0)
           ∙ sym (field-four b (a .j)),
       omega arith,
     )
@@ -89,8 +89,8 @@ four-bytes-spec =
     wide-requires-4
     mul-result
     mul-result-2
-    mul-result-3
     add-result
+    mul-result-3
     add-result-2
     add-result-3
     returns)
