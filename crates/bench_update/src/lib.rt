@@ -1,4 +1,5 @@
-// The running sketch for the benchmark alone: many updates in one call, so that a clock sees them. Bytes in, bytes out, as the C entries.
+// The running sketch for the benchmark alone: many updates in one call, so that a clock sees them. Bytes in, bytes
+// out, as the C entries.
 use encoding::KEY_BYTES;
 use residue::Key;
 use rules::Answer;
@@ -56,7 +57,8 @@ fn add_into(s: Sketch, list: &[u8], message: &mut [u8]) -> u64
     done.number as u64
 }
 
-// The sketch in the message, with the keys of the list added: the number of the first refusal, or 0. Bytes behind the last whole key are left out.
+// The sketch in the message, with the keys of the list added: the number of the first refusal, or 0. Bytes behind the
+// last whole key are left out.
 #[no_mangle]
 pub extern "C" fn vlomdar_bench_add(list: &[u8], message: &mut [u8]) -> u64
     ensures { λ r. ⌜ (r ≡ entryReturns adding (now (list .entry)) (now (message .entry))) × (now (message .exit) ≡ entryLeaves adding (now (list .entry)) (now (message .entry))) ⌝ }
@@ -101,7 +103,8 @@ fn remove_into(s: Sketch, list: &[u8], message: &mut [u8]) -> u64
     done.number as u64
 }
 
-// The sketch in the message, with the keys of the list removed: the number of the first refusal, or 0. Bytes behind the last whole key are left out.
+// The sketch in the message, with the keys of the list removed: the number of the first refusal, or 0. Bytes behind
+// the last whole key are left out.
 #[no_mangle]
 pub extern "C" fn vlomdar_bench_remove(list: &[u8], message: &mut [u8]) -> u64
     ensures { λ r. ⌜ (r ≡ entryReturns removing (now (list .entry)) (now (message .entry))) × (now (message .exit) ≡ entryLeaves removing (now (list .entry)) (now (message .entry))) ⌝ }

@@ -1,4 +1,5 @@
-// The cases of document 01, "Values to hold against it", run through the calls: sketch, write, read, reconcile. A line for each says what came back.
+// The cases of document 01, "Values to hold against it", run through the calls: sketch, write, read, reconcile. A
+// line for each says what came back.
 use libc::STDOUT_FILENO;
 use rules::Answer;
 use rules::Sketch;

@@ -43,8 +43,9 @@ pub struct Intake {
     pub ascending: bool,
 }
 
-// The keys in a buffer, as many of them as there is room for. They are copied and compared in one pass; no key ends it and none makes it branch, so that
-// several are taken at a time. The key before is read again from its bytes: carried from turn to turn it would keep the compiler from taking several at a time.
+// The keys in a buffer, as many of them as there is room for. They are copied and compared in one pass; no key ends
+// it and none makes it branch, so that several are taken at a time. The key before is read again from its bytes:
+// carried from turn to turn it would keep the compiler from taking several at a time.
 pub fn keys_in(bytes: &[u8], keys: &mut [u32]) -> Intake
     requires { ⌜ length (now keys) ≤ suc listLimit ⌝ }
     ensures { λ r. ⌜ Taken (now (bytes .entry)) (now (keys .entry)) (now (keys .exit)) (r .count) (r .ascending) ⌝ }

@@ -1,4 +1,5 @@
-// Dome and home in one call: the dome's list sketched and written, the message read and reconciled with home's list. Its contract is demand 3.
+// Dome and home in one call: the dome's list sketched and written, the message read and reconciled with home's list.
+// Its contract is demand 3.
 use reconcile::Reconciled;
 use rules::Answer;
 ghost use Prim.Native.Nat.{_≤_};

@@ -26,8 +26,8 @@ pub fn too_large(m: usize, n: usize, count: usize) -> bool
     if d < 0 - most { true } else { most < d }
 }
 
-// (m + d) / 2 for the gap d of n and `count`, and (m − d) / 2 with the two the other way round. Once the gap is in range the sum is not negative, and
-// halving rounds it down.
+// (m + d) / 2 for the gap d of n and `count`, and (m − d) / 2 with the two the other way round. Once the gap is in
+// range the sum is not negative, and halving rounds it down.
 pub fn degree(m: usize, n: usize, count: usize) -> usize
     requires { ⌜ (m ≤ mostSamples) × (n ≤ listLimit) × (count ≤ listLimit) × (count ≤ n + m) ⌝ }
     ensures { λ r. ⌜ r ≡ degreeOf m n count ⌝ }

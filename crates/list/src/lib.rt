@@ -1,4 +1,5 @@
-// Lists of keys: the test of a list, which has at most 16,384 keys, each legal and above the one before it; and whether it holds a key.
+// Lists of keys: the test of a list, which has at most 16,384 keys, each legal and above the one before it; and
+// whether it holds a key.
 use rules::Answer;
 use rules::KEY_LIMIT;
 use rules::LIST_LIMIT;
@@ -20,7 +21,8 @@ pub fn fall(before: u32, key: u32) -> u32
     if key <= before { 1 } else { 0 }
 }
 
-// Whether each key is above the one before it. No key ends the loop and none makes it branch, so that several are compared at a time.
+// Whether each key is above the one before it. No key ends the loop and none makes it branch, so that several are
+// compared at a time.
 fn ascends(keys: &[u32]) -> bool
     requires { ⌜ length (now keys) ≤ listLimit ⌝ }
     ensures { λ r. ⌜ Decides (Ascending (now (keys .entry))) r ⌝ }
@@ -73,8 +75,9 @@ fn too_long(keys: &[u32]) -> bool
     (LIST_LIMIT as usize) < keys.len()
 }
 
-// What is wrong with a list, if anything: too long, or its first bad key. Whether the keys ascend is told by the caller, who may have seen it on the way. A bad
-// key is looked for only where there is one: nearly every list is legal, which is told faster.
+// What is wrong with a list, if anything: too long, or its first bad key. Whether the keys ascend is told by the
+// caller, who may have seen it on the way. A bad key is looked for only where there is one: nearly every list is
+// legal, which is told faster.
 pub fn answer_told(keys: &[u32], ascending: bool) -> Answer
     requires { ⌜ Decides (Ascending (now keys)) ascending ⌝ }
     ensures { λ r. ⌜ r ≡ listAnswer (now (keys .entry)) ⌝ }

@@ -1,4 +1,5 @@
-// Random pairs of sets through `exchange`, whose differences are found a second time by merging the two lists: the line that is printed says how often the two agree.
+// Random pairs of sets through `exchange`, whose differences are found a second time by merging the two lists: the
+// line that is printed says how often the two agree.
 use libc::STDOUT_FILENO;
 use reconcile::Reconciled;
 use rules::Answer;
@@ -36,8 +37,8 @@ struct Drawn {
     home: usize,
 }
 
-// Two sets, drawn from so many numbers by a seed. At most `most` keys are in one of them alone: about `often` of eight, and of these `lean` of four
-// at the dome.
+// Two sets, drawn from so many numbers by a seed. At most `most` keys are in one of them alone: about `often` of
+// eight, and of these `lean` of four at the dome.
 fn draw(
     seed: u32,
     count: usize,

@@ -53,7 +53,8 @@ pub fn code_of(request: u32) -> u8
     }
 }
 
-// 0 where v may stand in a slot of a sample, and nowhere else: v − 1 is below p − 1. A number, so that no slot makes a branch.
+// 0 where v may stand in a slot of a sample, and nowhere else: v − 1 is below p − 1. A number, so that no slot makes
+// a branch.
 fn bad_value(v: u32) -> u32
     ensures { λ r. ⌜ Fault Value v r ⌝ }
 {
@@ -88,8 +89,8 @@ fn bad_rests(m: usize, values: &[u32; MOST_SAMPLES]) -> u32
     bad
 }
 
-// Whether the sketch of these parts is well-formed. All slots are looked at, those of the samples in one pass and the others in the next, so that
-// the compiler takes several at a time.
+// Whether the sketch of these parts is well-formed. All slots are looked at, those of the samples in one pass and the
+// others in the next, so that the compiler takes several at a time.
 pub fn formed(plan: u8, size: u32, values: &[u32; MOST_SAMPLES]) -> bool
     requires { ⌜ length (now values) ≡ mostSamples ⌝ }
     ensures { λ r. ⌜ r ≡ wellFormed (sketchFrom plan size (now (values .entry))) ⌝ }

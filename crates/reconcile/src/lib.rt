@@ -14,7 +14,8 @@ pub struct Reconciled {
     pub ours: usize,
 }
 
-// The refusals that come before a difference is looked for, in their order. Whether the sketch is well-formed and the answer of the list are handed in.
+// The refusals that come before a difference is looked for, in their order. Whether the sketch is well-formed and the
+// answer of the list are handed in.
 fn tests(s: Sketch, formed: bool, home: &[u32], list: Answer, theirs: usize, ours: usize) -> Answer
     requires { ⌜ (formed ≡ wellFormed s) × (list ≡ listAnswer (now home)) ⌝ }
     ensures { λ r. ⌜ r ≡ reconcileTests s (now (home .entry)) theirs ours ⌝ }
@@ -40,8 +41,9 @@ fn tests(s: Sketch, formed: bool, home: &[u32], list: Answer, theirs: usize, our
     Answer::Done
 }
 
-// What each side lacks: the keys that are new at home in the first entries of theirs, those that the dome lacks in those of ours. Both lists are found in
-// arrays of this call and copied once, on success: a refusal leaves both buffers as they were. The tests of the sketch and of the list have been made by the caller.
+// What each side lacks: the keys that are new at home in the first entries of theirs, those that the dome lacks in
+// those of ours. Both lists are found in arrays of this call and copied once, on success: a refusal leaves both
+// buffers as they were. The tests of the sketch and of the list have been made by the caller.
 pub fn reconcile_told(
     s: Sketch,
     formed: bool,

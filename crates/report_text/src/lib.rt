@@ -1,4 +1,5 @@
-// The lines that the night report writes, each into a lent buffer from a place on; each function answers the place behind what it wrote.
+// The lines that the night report writes, each into a lent buffer from a place on; each function answers the place
+// behind what it wrote.
 use rules::Answer;
 ghost use Prim.Native.Nat.{_+_, _*_, _≤_};
 ghost use lib.ListN.{length};

@@ -1,5 +1,5 @@
-// The running sketch beside the sketch of the list: keys go in and out one by one, and after each update the two are compared.
-// The program prints how many updates there were and how often the two agreed.
+// The running sketch beside the sketch of the list: keys go in and out one by one, and after each update the two are
+// compared. The program prints how many updates there were and how often the two agreed.
 use libc::STDOUT_FILENO;
 use residue::Key;
 use rules::Sketch;
