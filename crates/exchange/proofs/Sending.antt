@@ -5,29 +5,25 @@
 --
 -- Assumes nothing.
 use mathlib.Core.Path.{_≡_, refl, sym, ap, ap₂, subst, _∙_}
-use mathlib.Core.Bool.{Bool, true, false, cond, not, _&&_}
+use mathlib.Core.Bool.{not}
 use mathlib.Core.List.{List, _++_}
-use Prim.Native.Nat.{ℕ, _+_, _≤_, _<_}
+use Prim.Native.Nat.{ℕ, _+_, _≤_}
 use native.Mathlib.Omega.{arith}
-use borrow.Author.Tests.{ltb-true, lt-ltb}
-use lib.Dec.{ltb, eqb, lit<}
 use lib.ListN.{length, length-append, take, drop}
-use Rattle.rules.specs.Numbers.{plans, samples, usualRequest, usualPlan, planOf, unknownPlan, LegalList}
+use Rattle.rules.specs.Numbers.{samples, planOf}
 use Rattle.rules.specs.Plans.{message-longest}
 use Rattle.rules.specs.Sketches.{sketchOf, blank, WellFormed}
 use Rattle.rules.specs.Messages.{message, messageLength, longestMessage}
-use Rattle.rules.specs.Refusals.{when, given}
-use Rattle.rules.specs.Legal.{legal, passes}
-use Rattle.rules.specs.Tests.{when-done, then-done, done-when, done-then, refused-not-done}
-use Rattle.rules.specs.Calls.{listAnswer, sketchAnswer, sketchResult, writeAnswer, writeLength, writeBuffer, readResult}
+use Rattle.rules.specs.Refusals.{given}
+use Rattle.rules.specs.Tests.{refused-not-done}
+use Rattle.rules.specs.Calls.{sketchAnswer, sketchResult, writeAnswer, writeLength, writeBuffer, readResult}
 use Rattle.rules.specs.Reconciling.{Left, Reconciles}
 use Rattle.rules.specs.declared.Sketch.{Sketch}
 use Rattle.rules.specs.declared.Refusal.{Refusal}
-use Rattle.rules.specs.declared.Refusal.the-variants.{UnknownPlan}
 use Rattle.rules.specs.declared.Answer.{Answer}
 use Rattle.rules.specs.declared.Answer.the-variants.{Done, Refused}
 use Rattle.sketch.specs.Formed.{legal-formed}
-use Rattle.sketch.specs.Requested.{taken}
+use Rattle.sketch.specs.Requested.{taken, accepted}
 use Rattle.message.specs.RoundTrip.{Reads, length-message, read-written}
 use Rattle.promises.specs.Demands.{Within, Tells, demand-3-sketch}
 use Rattle.exchange.specs.Exchanged.{Sent, Exchanges}
