@@ -1,5 +1,7 @@
 // The running sketch for the benchmark alone: many updates in one call, so that a clock sees them. Bytes in, bytes
 // out, as the C entries.
+#![tactic(auto)]
+
 ghost use Rattle.std.specs.Prelude.{◌≡◌, length};
 ghost use Rattle.rules.specs.Numbers.{most_samples};
 ghost use Rattle.rules.specs.Filled.{sketch_from};
@@ -12,7 +14,7 @@ use residue::Key;
 use rules::{Answer, MOST_SAMPLES, Sketch};
 
 // What many updates leave of a sketch's parts: the number of the first refusal, or 0, and the size.
-#[derive(Drop)]
+#[derive(Clone, Copy)]
 struct Outcome {
     number: u32,
     size: u32,
@@ -58,8 +60,7 @@ fn add_into(s: Sketch, list: &[u8], message: &mut [u8]) -> u64
 
 // The sketch in the message, with the keys of the list added: the number of the first refusal, or 0. Bytes behind the
 // last whole key are left out.
-#[unsafe(no_mangle)]
-pub extern "C" fn vlomdar_bench_add(list: &[u8], message: &mut [u8]) -> u64
+pub fn vlomdar_bench_add(list: &[u8], message: &mut [u8]) -> u64
     ensures { (result ≡ entry_returns adding list.now message.old) × (message.new ≡ entry_leaves adding list.now message.old) }
 {
     let read = message::read(message);
@@ -104,8 +105,7 @@ fn remove_into(s: Sketch, list: &[u8], message: &mut [u8]) -> u64
 
 // The sketch in the message, with the keys of the list removed: the number of the first refusal, or 0. Bytes behind
 // the last whole key are left out.
-#[unsafe(no_mangle)]
-pub extern "C" fn vlomdar_bench_remove(list: &[u8], message: &mut [u8]) -> u64
+pub fn vlomdar_bench_remove(list: &[u8], message: &mut [u8]) -> u64
     ensures { (result ≡ entry_returns removing list.now message.old) × (message.new ≡ entry_leaves removing list.now message.old) }
 {
     let read = message::read(message);

@@ -1,4 +1,6 @@
 // How keys and outcomes look to a caller in C: a key is four bytes, an outcome one number.
+#![tactic(auto)]
+
 ghost use Rattle.std.specs.Prelude.{◌≡◌, ◌++◌, suc, ◌+◌, ◌*◌, ◌<◌, ◌≤◌, ◌^◌, length, drop};
 ghost use Rattle.rules.specs.Numbers.{list_limit};
 ghost use Rattle.rules.specs.Refusals.{number_of, place_of};
@@ -36,7 +38,7 @@ fn byte_of(key: u32, i: usize) -> u8
 }
 
 // How many keys were taken out of a buffer, and whether each is above the one before it.
-#[derive(Drop)]
+#[derive(Clone, Copy)]
 pub struct Intake {
     pub count: usize,
     pub ascending: bool,

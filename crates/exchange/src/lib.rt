@@ -1,5 +1,7 @@
 // Dome and home in one call: the dome's list sketched and written, the message read and reconciled with home's list.
 // Its contract is demand 3.
+#![tactic(auto)]
+
 ghost use Rattle.std.specs.Prelude.{◌≤◌, length};
 ghost use Rattle.rules.specs.Numbers.{plan_of, samples};
 ghost use Rattle.promises.specs.Demands.{Within, Tells};

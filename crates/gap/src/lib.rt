@@ -1,6 +1,8 @@
 // The size gap d = n − count of home, a signed number, and the degrees that it gives.
 //
 // Never a subtraction of unsigned lengths: home may be the larger side as well as the smaller.
+#![tactic(auto)]
+
 ghost use Rattle.std.specs.Prelude.{◌≡◌, ◌+◌, ◌≤◌};
 ghost use Rattle.std.proofs.Math.IntN.{sub_ℕ};
 ghost use Rattle.rules.specs.Numbers.{most_samples, list_limit};

@@ -1,5 +1,7 @@
 // Lists of keys: the test of a list, which has at most 16,384 keys, each legal and above the one before it; and
 // whether it holds a key.
+#![tactic(auto)]
+
 ghost use Rattle.std.specs.Prelude.{◌≡◌, cond, ◌-◌, ◌≤◌, ltb, leb, length, get_or};
 ghost use Rattle.algebra.specs.Decided.{Decides};
 ghost use Rattle.algebra.specs.Sets.{◌∈◌, Ascending};

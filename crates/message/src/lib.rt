@@ -1,4 +1,6 @@
 // Document 01, "Message bits": a sketch written as a message, and a message read back.
+#![tactic(auto)]
+
 ghost use Rattle.std.specs.Prelude.{◌≡◌, true, length};
 ghost use Rattle.rules.specs.Sketches.{blank, well_formed};
 ghost use Rattle.rules.specs.Filled.{sketch_from};
@@ -7,7 +9,7 @@ ghost use Rattle.rules.specs.Calls.{write_answer, write_length, write_buffer, re
 use rules::{Answer, Refusal, Sketch, Sketched};
 
 // What a write answers, and the length of the message that it wrote, 0 if it refused.
-#[derive(Drop)]
+#[derive(Clone, Copy)]
 pub struct Written {
     pub answer: Answer,
     pub length: usize,

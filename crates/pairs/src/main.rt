@@ -1,10 +1,12 @@
 // Random pairs of sets through `exchange`, whose differences are found a second time by merging the two lists: the
 // line that is printed says how often the two agree.
+#![tactic(auto)]
+
 ghost use Rattle.std.specs.Prelude.{◌≡◌, true, not, ◌||◌, ◌≤◌, ◌<◌, length};
 
-use libc::STDOUT_FILENO;
 use reconcile::Reconciled;
 use rules::Answer;
+use std::io;
 
 // The most keys of a set, and the room for a difference: that of 64 samples.
 const KEYS: usize = rules::MOST_SAMPLES;
@@ -30,7 +32,7 @@ fn has(differs: bool, picked: bool) -> bool
 }
 
 // How many keys of each set were drawn.
-#[derive(Drop)]
+#[derive(Clone, Copy)]
 struct Drawn {
     dome: usize,
     home: usize,
@@ -190,10 +192,7 @@ fn pairs() -> u32
     agreed
 }
 
-fn main() {
+fn main(rt: HostRuntime) -> io::Result<()> {
     let agreed = pairs();
-    io::print_decimal(STDOUT_FILENO, PAIRS as u64);
-    io::write_all(STDOUT_FILENO, b" pairs, ");
-    io::print_decimal(STDOUT_FILENO, agreed as u64);
-    io::write_all(STDOUT_FILENO, b" agreements\n");
+    println!(rt; "{PAIRS} pairs, {agreed} agreements")
 }

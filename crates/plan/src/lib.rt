@@ -1,4 +1,6 @@
 // Plans, and the sketches that are well-formed under one.
+#![tactic(auto)]
+
 ghost use Rattle.std.specs.Prelude.{◌≡◌, ◌≤◌, false, length};
 ghost use Rattle.rules.specs.Numbers.{most_samples, samples, plan_of, unknown_plan};
 ghost use Rattle.rules.specs.Sketches.{blank, well_formed};

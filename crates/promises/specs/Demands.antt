@@ -8,7 +8,7 @@
 --   demand_3_apart         two legal sets, each within m of B, that share a message under one plan are one set
 --
 -- Assumes nothing.
-use Rattle.std.specs.Prelude.{◌≡◌, cond, List, ◌++◌, ℕ, suc, ◌+◌, ◌-◌, ◌≤◌, ◌<◌, length, get_or, drop}
+use Rattle.std.specs.Prelude.{◌≡◌, cond, List, ◌++◌, ℕ, suc, ◌+◌, ◌≤◌, ◌<◌, length, get_or, drop}
 use Rattle.std.proofs.Common.{sym, ap, subst, ◌∙◌, inl, inr, arith, lt-ltb, lit<, length-append}
 use Rattle.std.proofs.Math.Decide.{ℕ_discrete}
 use Rattle.algebra.specs.Sets.{◌∈◌, ◌⊆◌, ascending_distinct, ascending_ext, without, without_mem, mem_without, without_ascending, cover, length_perm, mem?}

@@ -6,7 +6,7 @@
 --   starred_hold       every claim of every case holds
 --
 -- Assumes nothing.
-use Rattle.std.specs.Prelude.{◌≡◌, refl, Bool, true, false, not, ◌||◌, List, [], ◌∷◌, ℕ, zero, suc, ◌+◌, ◌-◌, ◌%◌, ◌≤◌, ◌<◌, eqb, length, get_or}
+use Rattle.std.specs.Prelude.{◌≡◌, refl, Bool, true, false, not, ◌||◌, List, [], ◌∷◌, ℕ, zero, suc, ◌+◌, ◌-◌, ◌%◌, ◌<◌, eqb, length, get_or}
 use Rattle.std.proofs.Common.{sym, ap, ap₂, ◌∙◌, ⊎_elim, arith, eqb-true, eq-eqb, lit≤, lit<, add-one}
 use mathlib.Core.List.Memᴰ
 use Rattle.algebra.specs.Arithmetic.{mul_of, product_of}
@@ -15,7 +15,7 @@ use Rattle.algebra.specs.Ring.{sub_eq_zero, add_neg}
 use Rattle.algebra.specs.Field.{mul_eq_zero}
 use Rattle.algebra.specs.Solver.{◌⊕◌, ◌⊝◌, ◌⊗◌, ⊖, #0, #1, by_ring}
 use Rattle.algebra.specs.Residues.{of_add, of_neg}
-use Rattle.rules.specs.Numbers.{modulus, modulus-prime, key_limit, point, LegalKey}
+use Rattle.rules.specs.Numbers.{modulus, modulus_prime, key_limit, point, LegalKey}
 use Rattle.rules.specs.Sketches.{value, well_formed}
 use Rattle.rules.specs.Calls.{list_answer}
 use Rattle.rules.specs.Legal.{keys_legal}
@@ -149,11 +149,11 @@ nth (suc n) = add (nth n) 𝟙
 
 nth_is : (n : ℕ) → res n ≡ nth n
 nth_is zero = zero_is
-nth_is (suc n) = ap res (sym (add-one n)) ∙ of_add modulus-prime n 1 ∙ ap₂ add (nth_is n) one_is
+nth_is (suc n) = ap res (sym (add-one n)) ∙ of_add modulus_prime n 1 ∙ ap₂ add (nth_is n) one_is
 
 -- sample point j, for small j, is −j
 point_is : (j : ℕ) → res (modulus - j % modulus) ≡ neg (nth j)
-point_is j = of_neg modulus-prime j ∙ ap neg (nth_is j)
+point_is j = of_neg modulus_prime j ∙ ap neg (nth_is j)
 
 twice : (x y : Fp) → mul (add (neg (nth 1)) (neg x)) (add (neg (nth 1)) (neg y)) ≡ nth 4 → mul (add (neg (nth 2)) (neg x)) (add (neg (nth 2)) (neg y)) ≡ nth 9 → mul (add x (neg 𝟙)) (add y (neg 𝟙)) ≡ 𝟘
 twice x y e f =

@@ -1,4 +1,6 @@
 // Reconciling: from the dome's sketch and the home list, exactly the difference, or an honest refusal.
+#![tactic(auto)]
+
 ghost use Rattle.std.specs.Prelude.{◌≡◌};
 ghost use Rattle.rules.specs.Sketches.{well_formed};
 ghost use Rattle.rules.specs.Calls.{list_answer, reconcile_tests};
@@ -7,7 +9,7 @@ ghost use Rattle.rules.specs.Reconciling.{Reconciles};
 use rules::{Answer, Refusal, Sketch};
 
 // The answer, and how many keys stand in each buffer.
-#[derive(Drop)]
+#[derive(Clone, Copy)]
 pub struct Reconciled {
     pub answer: Answer,
     pub theirs: usize,

@@ -1,4 +1,6 @@
 // The number and the place of an answer, as document 01's table has them.
+#![tactic(auto)]
+
 ghost use Rattle.std.specs.Prelude.{◌≡◌};
 ghost use Rattle.rules.specs.Refusals.{number_of, place_of};
 

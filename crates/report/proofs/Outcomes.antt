@@ -11,7 +11,7 @@ use Prim.Native.Nat.{ℕ, ◌+◌, ◌≤◌, ◌<◌}
 use native.Mathlib.Omega.{arith}
 use lib.ListN.{length, drop, drop_of_length-le}
 use lib.Seq.{drop-cons}
-use Rattle.rules.specs.Numbers.{samples, most_samples}
+use Rattle.rules.specs.Numbers.{most_samples}
 use Rattle.rules.specs.Plans.{samples_most}
 use Rattle.rules.specs.Tests.{refused_not_done}
 use Rattle.rules.specs.Calls.{reconcile_tests}

@@ -1,4 +1,6 @@
 // Document 01, "The night report": text in, text out. The program `night_report` reads and writes around it.
+#![tactic(auto)]
+
 ghost use Rattle.std.specs.Prelude.{◌≤◌, length};
 ghost use Rattle.rules.specs.Calls.{read_answer, read_result};
 ghost use Rattle.rules.specs.Report.{input_limit, keys_limit, AfterReconcile, AfterRead, second_line, with_second, Says, Reports};
@@ -18,7 +20,7 @@ const MESSAGE_LIMIT: usize = INPUT_LIMIT / 2;
 pub const TEXT_ROOM: usize = 1024;
 
 // The text to write: the first bytes; the others are 0.
-#[derive(Drop)]
+#[derive(Clone, Copy)]
 pub struct Text {
     pub bytes: [u8; TEXT_ROOM],
     pub length: usize,

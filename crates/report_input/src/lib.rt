@@ -1,4 +1,6 @@
 // The two lines that the night report reads.
+#![tactic(auto)]
+
 ghost use Rattle.std.specs.Prelude.{◌≡◌, true, false, ◌&&◌, ◌+◌, ◌*◌, ◌^◌, ◌≤◌, ◌<◌, ltb, length};
 ghost use Rattle.rules.specs.Report.{begins, is_digit, digits_limit, keys_limit, keys_from, keys_line, limited, is_hex, hex_value, bytes_line, first_line, second_line};
 ghost use Rattle.report_input.specs.Lines.{Reads};
@@ -10,7 +12,7 @@ const SPACE: u8 = b' ';
 const DIGITS: u32 = 9;
 
 // A line that was read: how many numbers it holds, and where the bytes behind it begin; both 0 where it is bad.
-#[derive(Drop)]
+#[derive(Clone, Copy)]
 pub struct Line {
     pub good: bool,
     pub count: usize,

@@ -1,5 +1,7 @@
 // The lines that the night report writes, each into a lent buffer from a place on; each function answers the place
 // behind what it wrote.
+#![tactic(auto)]
+
 ghost use Rattle.std.specs.Prelude.{◌+◌, ◌*◌, ◌≤◌, length};
 ghost use Rattle.rules.specs.Report.{decimal, keys_text, list_text, counts_text, found_text, bad_line_text, refused_text};
 ghost use Rattle.rules.specs.Numbers.{most_samples};

@@ -1,12 +1,14 @@
 // The running sketch beside the sketch of the list: keys go in and out one by one, and after each update the two are
 // compared. The program prints how many updates there were and how often the two agreed.
+#![tactic(auto)]
+
 ghost use Rattle.std.specs.Prelude.{◌≡◌, true, cond, [], ◌≤◌, ◌<◌, length};
 ghost use Rattle.rules.specs.Calls.{sketch_result, add_result, remove_result};
 ghost use Rattle.running.specs.Same.{Same};
 
-use libc::STDOUT_FILENO;
 use residue::Key;
 use rules::{Sketch, Sketched};
+use std::io;
 
 // Key j of the 64 that go in and out lies at j times this, so that the keys reach from 0 to near the largest.
 const SPREAD: u32 = rules::KEY_LIMIT / 63;
@@ -121,10 +123,8 @@ fn empty(plan: u32) -> Sketch
     r.sketch
 }
 
-fn main() {
+fn main(rt: HostRuntime) -> io::Result<()> {
+    let updates = 2 * UPDATES;
     let agreed = run(255, UPDATES) + run(15, UPDATES);
-    io::print_decimal(STDOUT_FILENO, 2 * UPDATES as u64);
-    io::write_all(STDOUT_FILENO, b" updates, ");
-    io::print_decimal(STDOUT_FILENO, agreed as u64);
-    io::write_all(STDOUT_FILENO, b" agreements\n");
+    println!(rt; "{updates} updates, {agreed} agreements")
 }
