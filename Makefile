@@ -1,4 +1,4 @@
-# The C side of Vlomdar: the archive, the example, the checks and the installation. The proofs and programs are `rt check`'s (see README.md).
+# The C side of Vlomdar: the archive, the example, the checks and the installation. The proofs and programs are `rt ci`'s (see README.md).
 #
 #   make                   target/staticlib/libvlomdar.a (proves the library first) and build/exchange
 #   make check             header as C and C++, example against its expected output, entries against document 01, an installation
@@ -34,21 +34,20 @@ endif
 
 ARCHIVE = target/staticlib/libvlomdar.a
 REPORT = target/bin/night_report
-SOURCES = crates.txt $(shell find crates -name '*.rt' -o -name '*.antt')
+SOURCES = crates.txt $(shell find crates -name out -prune -o \( -name '*.rt' -o -name '*.antt' \) -print)
 
 .PHONY: all check check-header check-example check-entries check-install against against-itself against-calls against-memory against-damage bench-packages bench figures install clean
 
 all: $(ARCHIVE) build/exchange
 
-# What the archive rests on is proved first: `rt check` takes several crates at a time, `rt staticlib` one after the other.
+# `rt lib` proves what the archive rests on first, and keeps what it proved: so the two goals below take turns.
 $(ARCHIVE): $(SOURCES)
-	$(RT) check $(shell sed -n 's/^vlomdar://p' crates.txt)
-	$(RT) staticlib vlomdar
-	touch $@
+	cd crates/vlomdar_c && $(RT) lib --cpu x86-64
+	install -D -m 644 crates/vlomdar_c/out/libvlomdar_c.a $@
 
 $(REPORT): $(SOURCES) | $(ARCHIVE)
-	$(RT) check night_report
-	touch $@
+	cd crates/night_report && $(RT) run --cpu x86-64 < stdin > /dev/null
+	install -D -m 755 crates/night_report/out/night_report $@
 
 build:
 	mkdir -p build
@@ -127,8 +126,8 @@ bench-packages:
 
 # The running sketch has no C entry; this archive makes it callable for the benchmark alone.
 $(BENCH_UPDATE): $(SOURCES) | $(ARCHIVE)
-	$(RT) staticlib bench_update
-	touch $@
+	cd crates/bench_update_c && $(RT) lib --cpu x86-64
+	install -D -m 644 crates/bench_update_c/out/libbench_update_c.a $@
 
 $(BENCH_OBJECTS): build/%.o: %.cpp | bench-packages
 	mkdir -p $(@D)

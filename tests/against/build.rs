@@ -1,4 +1,4 @@
-//! Links libvlomdar.a from the folder that VLOMDAR_LIB names (relative to tests/), or from where `rt staticlib vlomdar` puts it.
+//! Links libvlomdar.a from the folder that VLOMDAR_LIB names (relative to tests/), or from where `make` puts it.
 
 use std::{env, path::Path, process::exit};
 
@@ -9,7 +9,7 @@ fn main() {
     let archive = folder.join("libvlomdar.a");
     println!("cargo:rerun-if-changed={}", archive.display());
     if !archive.exists() {
-        eprintln!("no archive {}: make it with `rt staticlib vlomdar`, or set VLOMDAR_LIB to its folder", archive.display());
+        eprintln!("no archive {}: make it with `make`, or set VLOMDAR_LIB to its folder", archive.display());
         exit(1);
     }
     println!("cargo:rustc-link-search=native={}", folder.display());
