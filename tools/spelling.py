@@ -63,7 +63,7 @@ def declared():
                     for item in found.group(2).split(','):
                         libraries[path].add(item.split(' as ')[-1].strip())
                 continue
-            if line.startswith(('--', 'use ', 'pub use ', 'unfolding', 'mod ', 'pub mod')):
+            if line.startswith(('--', 'use ', 'pub use ', 'unfolding', 'mod ', 'pub mod ')):
                 continue
             found = re.match(LEADS + r'(record |data )(' + NAME + ')', line)
             if found:
