@@ -1,5 +1,5 @@
 // The running sketch for the benchmark alone: many updates in one call, so that a clock sees them. Bytes in, bytes
-// out, as the C entries.
+// out, as the C entries; `bench_update_c` exports them.
 #![tactic(auto)]
 
 ghost use Rattle.std.specs.Prelude.{◌≡◌, length};

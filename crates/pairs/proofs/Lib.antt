@@ -1,0 +1,1 @@
+-- No lemma is shared here: each proof folder has what it needs.

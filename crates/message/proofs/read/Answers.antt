@@ -39,7 +39,7 @@ at_body c =
     let samples_are = sample_count b _ _ c.samples-m.ensures header.ensures.plan in
     let long : length b ≡ message_length (message_samples b) = c.if-message-message_length.false ∙ c.message_length.ensures ∙ ap message_length samples_are in
     c.read_body-body.ensures.answer ∙ ap (body_answer b) samples_are
-    ∙ sym (to_body b c.if-message-eq0.false (sym header.ensures.version ∙ c.if-header-ne-VERSION.false) long (rw (← header.ensures.size) c.if-size-gt-LIST_LIMIT.false))
+    ∙ sym (to_body b (omega arith) (sym header.ensures.version ∙ c.if-header-ne-VERSION.false) long (rw (← header.ensures.size) c.if-size-gt-LIST_LIMIT.false))
 
 body_values : (c : After-read_body-body) → c.read_body-body.result.answer ≡ Done → c.read_body-body.result.values ≡ values_in c.args.message.now (message_samples c.args.message.now)
 body_values c e =
@@ -57,7 +57,7 @@ pub returns-then-header-ne-VERSION : goal.returns-then-header-ne-VERSION
 returns-then-header-ne-VERSION c =
     let header = c.read_header-header in
     gives_blank c.args.message.now c.refused-then-header-ne-VERSION.result UnknownVersion c.refused-then-header-ne-VERSION.ensures.0 c.refused-then-header-ne-VERSION.ensures.1
-    (unknown_version c.args.message.now c.if-message-eq0.false (λ e. c.if-header-ne-VERSION.true (header.ensures.version ∙ e)))
+    (unknown_version c.args.message.now (omega arith) (λ e. c.if-header-ne-VERSION.true (header.ensures.version ∙ e)))
 
 pub overflow_cast-plan : goal.overflow_cast-plan
 overflow_cast-plan c = let small = field_below c.args.message.now plan_at plan_width in omega (arith, c.read_header-header.ensures.plan)
@@ -68,13 +68,13 @@ message_length-requires c = few c
 pub returns-then-message-message_length : goal.returns-then-message-message_length
 returns-then-message-message_length c =
     gives_blank c.args.message.now c.refused-then-message-message_length.result WrongLength c.refused-then-message-message_length.ensures.0 c.refused-then-message-message_length.ensures.1
-    (wrong_length c.args.message.now c.if-message-eq0.false (known (goal.at.returns-then-message-message_length c).Else-header-ne-VERSION) (λ e. c.if-message-message_length.true (e ∙ sym (due_length (goal.at.returns-then-message-message_length c).After-message_length))))
+    (wrong_length c.args.message.now (omega arith) (known (goal.at.returns-then-message-message_length c).Else-header-ne-VERSION) (λ e. c.if-message-message_length.true (e ∙ sym (due_length (goal.at.returns-then-message-message_length c).After-message_length))))
 
 pub returns-then-size-gt-LIST_LIMIT : goal.returns-then-size-gt-LIST_LIMIT
 returns-then-size-gt-LIST_LIMIT c =
     let header = c.read_header-header in
     gives_blank c.args.message.now c.refused-then-size-gt-LIST_LIMIT.result LargeSize c.refused-then-size-gt-LIST_LIMIT.ensures.0 c.refused-then-size-gt-LIST_LIMIT.ensures.1
-    (large_size c.args.message.now c.if-message-eq0.false (known (goal.at.returns-then-size-gt-LIST_LIMIT c).Else-header-ne-VERSION) (c.if-message-message_length.false ∙ due_length (goal.at.returns-then-size-gt-LIST_LIMIT c).After-message_length) (rw (← header.ensures.size) c.if-size-gt-LIST_LIMIT.true))
+    (large_size c.args.message.now (omega arith) (known (goal.at.returns-then-size-gt-LIST_LIMIT c).Else-header-ne-VERSION) (c.if-message-message_length.false ∙ due_length (goal.at.returns-then-size-gt-LIST_LIMIT c).After-message_length) (rw (← header.ensures.size) c.if-size-gt-LIST_LIMIT.true))
 
 pub read_body-body-requires : goal.read_body-body-requires
 read_body-body-requires c = (few (goal.at.read_body-body-requires c).After-samples-m, c.if-message-message_length.false ∙ c.message_length.ensures)

@@ -4,7 +4,7 @@ use Prim.Native.Nat.{◌+◌, ◌≤◌}
 use native.Mathlib.Omega.{arith}
 use borrow.Author.Tests.{not-true, not-false}
 use lib.ListN.{length}
-use lib.Seq.{length-take-le}
+use lib.ListN.{length-take}
 use Rattle.rules.specs.Numbers.{samples}
 use Rattle.rules.specs.Calls.{reconcile_tests}
 use Rattle.rules.specs.declared.Answer.TheVariants.{Done}
@@ -50,22 +50,22 @@ returns-then-not-counts c =
     (not-true _ c.if-not-counts.true)
 
 pub slice_bounds-new-end : goal.slice_bounds-new-end
-slice_bounds-new-end c = (counts (goal.at.slice_bounds-new-end c).Else-not-counts).0
+slice_bounds-new-end c = omega (arith, (counts (goal.at.slice_bounds-new-end c).Else-not-counts).0)
 
 pub slice_bounds-copy-end : goal.slice_bounds-copy-end
-slice_bounds-copy-end c = sym (length-take-le _ _ (counts (goal.at.slice_bounds-copy-end c).Else-not-counts).0)
+slice_bounds-copy-end c = let n = counts (goal.at.slice_bounds-copy-end c).Else-not-counts in grind (arith, length-take, n.0)
 
 pub copy-requires : goal.copy-requires
-copy-requires c = let n = counts (goal.at.copy-requires c).Else-not-counts in omega (arith, length-take-le c.search-counts.result.theirs c.search-counts.new.theirs n.0, (room (goal.at.copy-requires c).After-search-counts).theirs_room)
+copy-requires c = let n = counts (goal.at.copy-requires c).Else-not-counts in let r = room (goal.at.copy-requires c).After-search-counts in grind (arith, length-take, n.0, r.theirs_room)
 
 pub slice_bounds-held-end : goal.slice_bounds-held-end
-slice_bounds-held-end c = (counts (goal.at.slice_bounds-held-end c).Else-not-counts).1
+slice_bounds-held-end c = omega (arith, (counts (goal.at.slice_bounds-held-end c).Else-not-counts).1)
 
 pub slice_bounds-copy-end-2 : goal.slice_bounds-copy-end-2
-slice_bounds-copy-end-2 c = sym (length-take-le _ _ (counts (goal.at.slice_bounds-copy-end-2 c).Else-not-counts).1)
+slice_bounds-copy-end-2 c = let n = counts (goal.at.slice_bounds-copy-end-2 c).Else-not-counts in grind (arith, length-take, n.1)
 
 pub copy-requires-2 : goal.copy-requires-2
-copy-requires-2 c = let n = counts (goal.at.copy-requires-2 c).Else-not-counts in omega (arith, length-take-le c.search-counts.result.ours c.search-counts.new.ours n.1, (room (goal.at.copy-requires-2 c).After-search-counts).ours_room)
+copy-requires-2 c = let n = counts (goal.at.copy-requires-2 c).Else-not-counts in let r = room (goal.at.copy-requires-2 c).After-search-counts in grind (arith, length-take, n.1, r.ours_room)
 
 pub returns : goal.returns
 returns c =

@@ -52,7 +52,7 @@ loop-i-preserved-then-one_more c =
 pub returns-then-digits-eq0 : goal.returns-then-digits-eq0
 returns-then-digits-eq0 c =
     let l = c.loop-i in
-    is_bad _ _ _ _ _ _ c.bad.ensures (no_digit c.args.line.now l.keys l.i l.n l.digits l.key _ l.invariant (search rules) refl (sym c.one_more.ensures ∙ c.if-one_more.false) c.if-digits-eq0.true)
+    is_bad _ _ _ _ _ _ c.bad.ensures (no_digit c.args.line.now l.keys l.i l.n l.digits l.key _ l.invariant (search rules) refl (sym c.one_more.ensures ∙ c.if-one_more.false) (omega arith))
 
 pub returns-then-n-keys : goal.returns-then-n-keys
 returns-then-n-keys c =
