@@ -2,117 +2,52 @@
 // out, as the C entries; `bench_update_c` exports them.
 #![tactic(auto)]
 
-ghost use Rattle.std.specs.Prelude.{◌≡◌, length};
-ghost use Rattle.rules.specs.Numbers.{most_samples};
-ghost use Rattle.rules.specs.Filled.{sketch_from};
-ghost use Rattle.rules.specs.Calls.{write_buffer};
+ghost use Rattle.std.specs.Prelude.{◌≡◌};
+ghost use Rattle.rules.specs.Refusals.{number_of};
 ghost use Rattle.rules.specs.Entries.{keys_of};
-ghost use Rattle.bench_update.specs.Folds.{adding, removing, after, earliest, first, entry_returns, entry_leaves};
+ghost use Rattle.bench_update.specs.Folds.{adding, removing, update_of, after, first, entry_returns, entry_leaves};
 
 use encoding::KEY_BYTES;
 use residue::Key;
-use rules::{Answer, MOST_SAMPLES, Sketch};
+use rules::{Answer, Sketch};
+use update::Change;
 
-// What many updates leave of a sketch's parts: the number of the first refusal, or 0, and the size.
-#[derive(Clone, Copy)]
-struct Outcome {
-    number: u32,
-    size: u32,
-}
-
-// The number that is told: the first that is not 0.
-fn earlier(number: u32, next: u32) -> u32
-    ensures { result ≡ earliest number next }
+// Each key of the list is added or removed, after a refusal too: a refused one leaves the sketch as it was. The answer
+// is the first refusal.
+fn change_all(change: Change, s: &mut Sketch, list: &[u8]) -> Answer
+    ensures { (number_of result ≡ first (update_of change) s.old (keys_of list.now)) × (s.new ≡ after (update_of change) s.old (keys_of list.now)) }
 {
-    if number == 0 { next } else { number }
-}
-
-// Each key of the list is added, after a refusal too: a refused one leaves the sketch as it was.
-fn add_all(plan: u8, size: u32, values: &mut [u32; MOST_SAMPLES], list: &[u8]) -> Outcome
-    requires { length values.old ≡ most_samples }
-    ensures { (result.number ≡ first adding (sketch_from plan size values.old) (keys_of list.now)) × (sketch_from plan result.size values.new ≡ after adding (sketch_from plan size values.old) (keys_of list.now)) }
-{
-    let mut number = 0;
-    let mut held = size;
-    let mut i = 0;
-    while i < list.len() / KEY_BYTES {
-        let key = encoding::key_at(list, KEY_BYTES * i);
-        let done = update::add_in_place(plan, held, values, Key(key));
-        let answer = done.answer;
-        number = earlier(number, refusal::number(answer));
-        held = done.size;
-        i += 1;
+    let mut told = Ok(());
+    for i in 0..list.len() / KEY_BYTES {
+        let key = Key(encoding::key_at(list, KEY_BYTES * i));
+        told = told.and(update::change_in_place(change, s, key));
     }
-    Outcome { number, size: held }
+    told
 }
 
-// The sketch with the keys of the list added, as a message.
-fn add_into(s: Sketch, list: &[u8], message: &mut [u8]) -> u64
-    ensures { (result ≡ first adding s (keys_of list.now)) × (message.new ≡ write_buffer (after adding s (keys_of list.now)) message.old) }
+// The same to the sketch in the message. Bytes behind the last whole key are left out.
+fn change_message(change: Change, list: &[u8], message: &mut [u8]) -> Answer
+    ensures { (number_of result ≡ entry_returns (update_of change) list.now message.old) × (message.new ≡ entry_leaves (update_of change) list.now message.old) }
 {
-    let plan = s.plan;
-    let mut values = s.values;
-    let done = add_all(plan, s.size, &mut values, list);
-    let size = done.size;
-    message::write(Sketch { plan, size, values }, message);
-    done.number as u64
+    let read = message::read(message);
+    read.answer?;
+    let mut s = read.sketch;
+    let told = change_all(change, &mut s, list);
+    message::write(s, message);
+    told
 }
 
-// The sketch in the message, with the keys of the list added: the number of the first refusal, or 0. Bytes behind the
-// last whole key are left out.
+// The sketch in the message, with the keys of the list added: the number of the first refusal, or 0.
 pub fn vlomdar_bench_add(list: &[u8], message: &mut [u8]) -> u64
     ensures { (result ≡ entry_returns adding list.now message.old) × (message.new ≡ entry_leaves adding list.now message.old) }
 {
-    let read = message::read(message);
-    let answer = read.answer;
-    let s = read.sketch;
-    match answer {
-        Answer::Refused(_) => refusal::number(answer) as u64,
-        Answer::Done => add_into(s, list, message),
-    }
+    u64::from(refusal::number(change_message(Change::Add, list, message)))
 }
 
-// The same for keys that are removed.
-fn remove_all(plan: u8, size: u32, values: &mut [u32; MOST_SAMPLES], list: &[u8]) -> Outcome
-    requires { length values.old ≡ most_samples }
-    ensures { (result.number ≡ first removing (sketch_from plan size values.old) (keys_of list.now)) × (sketch_from plan result.size values.new ≡ after removing (sketch_from plan size values.old) (keys_of list.now)) }
-{
-    let mut number = 0;
-    let mut held = size;
-    let mut i = 0;
-    while i < list.len() / KEY_BYTES {
-        let key = encoding::key_at(list, KEY_BYTES * i);
-        let done = update::remove_in_place(plan, held, values, Key(key));
-        let answer = done.answer;
-        number = earlier(number, refusal::number(answer));
-        held = done.size;
-        i += 1;
-    }
-    Outcome { number, size: held }
-}
-
-// The sketch with the keys of the list removed, as a message.
-fn remove_into(s: Sketch, list: &[u8], message: &mut [u8]) -> u64
-    ensures { (result ≡ first removing s (keys_of list.now)) × (message.new ≡ write_buffer (after removing s (keys_of list.now)) message.old) }
-{
-    let plan = s.plan;
-    let mut values = s.values;
-    let done = remove_all(plan, s.size, &mut values, list);
-    let size = done.size;
-    message::write(Sketch { plan, size, values }, message);
-    done.number as u64
-}
-
-// The sketch in the message, with the keys of the list removed: the number of the first refusal, or 0. Bytes behind
-// the last whole key are left out.
+// The same with the keys removed.
+// Stays beside the other: C calls the two by their names.
 pub fn vlomdar_bench_remove(list: &[u8], message: &mut [u8]) -> u64
     ensures { (result ≡ entry_returns removing list.now message.old) × (message.new ≡ entry_leaves removing list.now message.old) }
 {
-    let read = message::read(message);
-    let answer = read.answer;
-    let s = read.sketch;
-    match answer {
-        Answer::Refused(_) => refusal::number(answer) as u64,
-        Answer::Done => remove_into(s, list, message),
-    }
+    u64::from(refusal::number(change_message(Change::Remove, list, message)))
 }

@@ -13,6 +13,7 @@ pub extern "C" fn vlomdar_bench_add(list: &[u8], message: &mut [u8]) -> u64
 }
 
 // The sketch in the message, with the keys of the list removed.
+// Stays beside the other: these are two C names.
 #[unsafe(no_mangle)]
 pub extern "C" fn vlomdar_bench_remove(list: &[u8], message: &mut [u8]) -> u64
     ensures { (result ≡ entry_returns removing list.now message.old) × (message.new ≡ entry_leaves removing list.now message.old) }

@@ -17,7 +17,7 @@
 --   sketch_entry, sketch_entry_returns, -refused, -leaves, reconcile_entry     the C entries
 --
 -- Assumes nothing.
-use Rattle.std.specs.Prelude.{◌≡◌, refl, true, false, List, [], ◌∷◌, map, ℕ, replicate}
+use Rattle.std.specs.Prelude.{◌≡◌, refl, true, false, List, [], ◌∷◌, map, ℕ, replicate, Ok, Err}
 use Rattle.std.proofs.Common.{sym, ap, inl, lit<}
 use Rattle.algebra.specs.Arithmetic.{mul_of, product_of}
 use Rattle.algebra.specs.Power.{fast, fast_power}
@@ -25,14 +25,12 @@ use Rattle.algebra.specs.Tabulate.{tabulate}
 use Rattle.rules.specs.Numbers.{modulus, samples, plan_of, unknown_plan}
 use Rattle.rules.specs.Sketches.{sketch_of, well_formed, blank, with_key, without_key}
 use Rattle.rules.specs.Messages.{message_length, longest_message, fields, message, field_at}
-use Rattle.rules.specs.Refusals.{number_of, place_of}
+use Rattle.rules.specs.Refusals.{number_of, place_of, Answer}
 use Rattle.rules.specs.Calls.{list_answer, sketch_answer, sketch_result, write_answer, write_length, write_buffer, read_answer, read_result, add_answer, add_result, remove_answer, remove_result, reconcile_tests}
 use Rattle.rules.specs.Entries.{keys_of, bytes_of, packed, to_message_answer, sketch_entry_answer, sketch_returns, sketch_leaves, reconcile_entry_tests}
 use Rattle.rules.specs.Reconciling.{Left, Reconciles}
 use Rattle.rules.specs.Cases.{sketch_1, sketch_2, difference_9}
 use Rattle.rules.specs.declared.Refusal.TheVariants.{MalformedSketch}
-use Rattle.rules.specs.declared.Answer.{Answer}
-use Rattle.rules.specs.declared.Answer.TheVariants.{Done, Refused}
 
 abbrev pub told : Answer → ℕ × ℕ
 told a = (number_of a, place_of a)
@@ -112,7 +110,7 @@ pub written_7 : message (sketch_2 1 65533 65532) ≡ message_7
 unfolding fields message
 written_7 = refl
 
-pub read_7 : read_answer message_7 ≡ Done
+pub read_7 : read_answer message_7 ≡ Ok tt
 unfolding read_answer field_at
 read_7 = refl
 
@@ -162,11 +160,11 @@ reconciles = refl
 abbrev left_of : Answer → ℕ → ℕ → List ℕ → List ℕ → Left
 left_of a t o theirs ours = record { answer = a; theirs_count = t; ours_count = o; theirs = theirs; ours = ours }
 
-pub left_9 : Reconciles (sketch_1 1 64) [] (7 ∷ 7 ∷ []) (8 ∷ 8 ∷ []) (left_of Done 1 0 (65472 ∷ 7 ∷ []) (8 ∷ 8 ∷ []))
+pub left_9 : Reconciles (sketch_1 1 64) [] (7 ∷ 7 ∷ []) (8 ∷ 8 ∷ []) (left_of (Ok tt) 1 0 (65472 ∷ 7 ∷ []) (8 ∷ 8 ∷ []))
 unfolding Reconciles reconcile_tests well_formed list_answer
 left_9 = inl (record { new = 65472 ∷ []; held = []; difference = difference_9; answer = refl; theirs_count = refl; ours_count = refl; theirs_filled = refl; ours_filled = refl })
 
-pub left_blank : Reconciles blank [] (7 ∷ 7 ∷ []) (8 ∷ 8 ∷ []) (left_of (Refused MalformedSketch) 0 0 (7 ∷ 7 ∷ []) (8 ∷ 8 ∷ []))
+pub left_blank : Reconciles blank [] (7 ∷ 7 ∷ []) (8 ∷ 8 ∷ []) (left_of (Err MalformedSketch) 0 0 (7 ∷ 7 ∷ []) (8 ∷ 8 ∷ []))
 unfolding Reconciles reconcile_tests well_formed
 left_blank = record { answer = refl; theirs_none = refl; ours_none = refl; theirs_stay = refl; ours_stay = refl }
 

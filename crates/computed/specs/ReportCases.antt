@@ -8,12 +8,11 @@
 --   read_first, too_long_lem           what is written where the read refuses and the keys are bad too, and where the input is too long
 --
 -- Assumes nothing.
-use Rattle.std.specs.Prelude.{◌≡◌, refl, List, [], ◌∷◌, ℕ, replicate}
+use Rattle.std.specs.Prelude.{◌≡◌, refl, List, [], ◌∷◌, ℕ, replicate, Err}
 use Rattle.rules.specs.Refusals.{number_of, place_of}
 use Rattle.rules.specs.Report.{text, newline, good, bad, limited, first_line, second_line, too_long, bad_line, whole, form_of, decimal, refused_text, bad_line_text, counts_text, list_text, found_text, Reports}
 use Rattle.rules.specs.Calls.{read_answer}
 use Rattle.rules.specs.declared.Refusal.TheVariants.{UnorderedKey, NoDifference}
-use Rattle.rules.specs.declared.Answer.TheVariants.{Refused}
 
 abbrev pub example : List ℕ
 example = text "have 1\nmessage 110002fffd7ffe00\n"
@@ -26,11 +25,11 @@ pub example_text : found_text 1 1 1 (3 ∷ []) (1 ∷ []) ≡ text "plan 1 peer 
 unfolding found_text counts_text list_text decimal
 example_text = refl
 
-pub refused_13 : refused_text (number_of (Refused NoDifference)) (place_of (Refused NoDifference)) ≡ text "refused 13 at 0\n"
+pub refused_13 : refused_text (number_of (Err NoDifference)) (place_of (Err NoDifference)) ≡ text "refused 13 at 0\n"
 unfolding refused_text decimal
 refused_13 = refl
 
-pub refused_4 : refused_text (number_of (Refused (UnorderedKey 8191))) (place_of (Refused (UnorderedKey 8191))) ≡ text "refused 4 at 8191\n"
+pub refused_4 : refused_text (number_of (Err (UnorderedKey 8191))) (place_of (Err (UnorderedKey 8191))) ≡ text "refused 4 at 8191\n"
 unfolding refused_text decimal
 refused_4 = refl
 

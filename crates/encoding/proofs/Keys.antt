@@ -4,25 +4,29 @@
 --   Passed bytes keys i after falls    the first i keys of a buffer stand in front of `after`, and behind them the rest of `keys`; `falls` is 0 just where they ascend
 --   passed_first, passed_next      the first key; one more
 --   passed_none, passed_all        no key, or all that there is room for: they are taken
---   bytes_put              a copy of keys as bytes, in the words of the contract
+--   Placed keys buffer i after     the first i keys stand as bytes at the front of `after`, and behind them the rest of `buffer`
+--   placed_none, placed_next, placed_all       no key; one more; all
 --
 -- Assumes nothing.
 use mathlib.Core.Path.{◌≡◌, refl, sym, ap, ap₂, subst, ◌∙◌}
 use mathlib.Core.Bool.{true, cond}
 use mathlib.Core.Logic.{⊎_elim}
-use mathlib.Core.List.{List, ◌++◌}
-use Prim.Native.Nat.{ℕ, ◌+◌, ◌*◌, ◌-◌, ◌/◌, ◌≤◌, ◌<◌, min}
+use mathlib.Core.List.{List, [], ◌∷◌, ◌++◌, append_assoc}
+use Prim.Native.Nat.{ℕ, ◌+◌, ◌*◌, ◌-◌, ◌/◌, ◌%◌, ◌^◌, ◌≤◌, ◌<◌, min}
 use native.Mathlib.Nat.{eq-zero-or-pos, min-eq_left, min-eq_right}
 use native.Mathlib.Omega.{arith}
 use lib.Dec.{leb, eqb}
 use lib.ListN.{length, get_or, set, take, drop, length-set}
 use lib.Seq.{take_all, length-take-le, drop-set-lt, drop-drop}
-use Rattle.algebra.specs.Prefix.{agree_next}
+use Rattle.std.proofs.Common.{take-append-drop}
+use borrow.Rule.Slice.PartMut.{put_mid}
+use Rattle.std.specs.Int.{w32, to_le_bytes}
+use Rattle.std.proofs.lemmas.Slice.{take-put_mid, drop-put_mid}
+use Rattle.algebra.specs.Prefix.{take_next, agree_next}
 use Rattle.algebra.specs.Decided.{Decides}
 use Rattle.algebra.specs.Sets.{Ascending}
-use Rattle.rules.specs.Entries.{keys_of, key_at, bytes_of}
-use Rattle.rules.specs.Packed.{keys_length, keys_at, bytes_length}
-use Rattle.area.proofs.Copies.{Copied, copied_all}
+use Rattle.rules.specs.Entries.{keys_of, key_at, byte_of, bytes_of}
+use Rattle.rules.specs.Packed.{keys_length, keys_at, bytes_length, bytes_at}
 use Rattle.list.proofs.Order.{RisesBy, rises_none, rises_more, rises_front, rises_told}
 use Rattle.encoding.specs.Taken.{Taken}
 
@@ -83,5 +87,56 @@ module _ (bytes : List ℕ) where
           told = subst (λ (l : List ℕ). Decides (Ascending l) (eqb falls 0)) (sym p.copied) (rises_told (omega arith) (λ _. omega arith) (rises_front count (omega arith) p.rises));
         }
 
-pub bytes_put : (keys buffer after : List ℕ) (j : ℕ) → j ≡ 4 * length keys → Copied buffer (bytes_of keys) j after → after ≡ bytes_of keys ++ drop (4 * length keys) buffer
-bytes_put keys buffer after j e c = copied_all (e ∙ sym (bytes_length keys)) c ∙ ap (λ n. bytes_of keys ++ drop n buffer) (bytes_length keys)
+four_more : (l : List ℕ) (n : ℕ) → n + 4 ≤ length l → take (n + 4) l ≡ take n l ++ (get_or l n 0 ∷ get_or l (n + 1) 0 ∷ get_or l (n + 2) 0 ∷ get_or l (n + 3) 0 ∷ [])
+four_more l n h =
+    let two : n + 1 + 1 ≡ n + 2 = omega arith in
+    let three : n + 2 + 1 ≡ n + 3 = omega arith in
+    let four : n + 3 + 1 ≡ n + 4 = omega arith in
+    let a : take (n + 1) l ≡ take n l ++ get_or l n 0 ∷ [] = take_next l n (omega arith) in
+    let b : take (n + 2) l ≡ take (n + 1) l ++ get_or l (n + 1) 0 ∷ [] = ap (λ (k : ℕ). take k l) (sym two) ∙ take_next l (n + 1) (omega arith) in
+    let c : take (n + 3) l ≡ take (n + 2) l ++ get_or l (n + 2) 0 ∷ [] = ap (λ (k : ℕ). take k l) (sym three) ∙ take_next l (n + 2) (omega arith) in
+    let d : take (n + 4) l ≡ take (n + 3) l ++ get_or l (n + 3) 0 ∷ [] = ap (λ (k : ℕ). take k l) (sym four) ∙ take_next l (n + 3) (omega arith) in
+    rw (d, c, b, a) (simp append_assoc)
+
+module _ (keys buffer : List ℕ) where
+  pub record Placed (i : ℕ) (after : List ℕ) : Type 0 where
+    pub same : take (4 * i) after ≡ take (4 * i) (bytes_of keys)
+    pub rest : drop (4 * i) after ≡ drop (4 * i) buffer
+
+  pub placed_none : Placed 0 buffer
+  placed_none = record { same = refl; rest = refl }
+
+  -- the bytes of key i
+  entry : (i k : ℕ) → i < length keys → k < 4 → get_or (bytes_of keys) (4 * i + k) 0 ≡ byte_of (get_or keys i 0) k
+  entry i k h less =
+      let key : (4 * i + k) / 4 ≡ i = omega arith in
+      let byte : (4 * i + k) % 4 ≡ k = omega arith in
+      bytes_at keys (4 * i + k) (omega arith) ∙ ap₂ (λ (x y : ℕ). byte_of (get_or keys x 0) y) key byte
+
+  bytes_in : (i key : ℕ) → i < length keys → key ≡ get_or keys i 0 → to_le_bytes w32 key ≡ get_or (bytes_of keys) (4 * i) 0 ∷ get_or (bytes_of keys) (4 * i + 1) 0 ∷ get_or (bytes_of keys) (4 * i + 2) 0 ∷ get_or (bytes_of keys) (4 * i + 3) 0 ∷ []
+  bytes_in i key less k =
+      let zero : 4 * i ≡ 4 * i + 0 = omega arith in
+      let first : get_or (bytes_of keys) (4 * i) 0 ≡ byte_of (get_or keys i 0) 0 = ap (λ (n : ℕ). get_or (bytes_of keys) n 0) zero ∙ entry i 0 less (omega arith) in
+      let a : key % 2 ^ 8 ≡ get_or (bytes_of keys) (4 * i) 0 = omega (arith, first, k) in
+      let b : key / 2 ^ 8 % 2 ^ 8 ≡ get_or (bytes_of keys) (4 * i + 1) 0 = omega (arith, entry i 1 less (omega arith), k) in
+      let c : key / 2 ^ 16 % 2 ^ 8 ≡ get_or (bytes_of keys) (4 * i + 2) 0 = omega (arith, entry i 2 less (omega arith), k) in
+      let d : key / 2 ^ 24 % 2 ^ 8 ≡ get_or (bytes_of keys) (4 * i + 3) 0 = omega (arith, entry i 3 less (omega arith), k) in
+      cc
+
+  pub placed_next : {i key : ℕ} {after four : List ℕ} → 4 * length keys ≤ length after → i < length keys → key ≡ get_or keys i 0 → four ≡ to_le_bytes w32 key → Placed i after → Placed (i + 1) (put_mid (4 * i) 4 after four)
+  placed_next {i} {key} {after} {four} room less k f p =
+      let next : 4 * (i + 1) ≡ 4 * i + 4 = omega arith in
+      let n = bytes_length keys in
+      let long : length four ≡ 4 = ap length f in
+      let further : drop (4 * i + 4) after ≡ drop (4 * i + 4) buffer = sym (drop-drop 4 (4 * i) after) ∙ ap (drop 4) p.rest ∙ drop-drop 4 (4 * i) buffer in
+      record {
+        same = take-put_mid (4 * i) 4 after four (4 * (i + 1)) (omega arith) (omega arith)
+            ∙ ap₂ (λ (xs ys : List ℕ). xs ++ ys) p.same (f ∙ bytes_in i key less k) ∙ sym (ap (λ (m : ℕ). take m (bytes_of keys)) next ∙ four_more (bytes_of keys) (4 * i) (omega arith));
+        rest = drop-put_mid (4 * i) 4 after four (4 * (i + 1)) (omega arith) (omega arith) long ∙ ap (λ (m : ℕ). drop m after) next ∙ further ∙ ap (λ (m : ℕ). drop m buffer) (sym next);
+      }
+
+  pub placed_all : {i : ℕ} {after : List ℕ} → i ≡ length keys → Placed i after → after ≡ bytes_of keys ++ drop (4 * length keys) buffer
+  placed_all {i} {after} all p =
+      let n = bytes_length keys in
+      let whole : take (4 * i) (bytes_of keys) ≡ bytes_of keys = take_all (4 * i) (bytes_of keys) (omega arith) in
+      sym (take-append-drop (4 * i) after) ∙ ap₂ (λ (xs ys : List ℕ). xs ++ ys) (p.same ∙ whole) (p.rest ∙ ap (λ (k : ℕ). drop (4 * k) buffer) all)

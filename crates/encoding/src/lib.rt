@@ -12,29 +12,12 @@ use rules::Answer;
 // How many bytes a key takes.
 pub const KEY_BYTES: usize = 4;
 
-fn wide(byte: u8) -> u32
-    ensures { (result ≡ byte) × (result < 2 ^ 8) }
-{
-    byte as u32
-}
-
 // The key whose bytes begin at `at`, the lowest first.
 pub fn key_at(bytes: &[u8], at: usize) -> u32
     requires { at + key_bytes ≤ length bytes.now }
     ensures { result ≡ key_at bytes.now at }
 {
-    wide(bytes[at])
-        + 0x100 * wide(bytes[at + 1])
-        + 0x1_0000 * wide(bytes[at + 2])
-        + 0x100_0000 * wide(bytes[at + 3])
-}
-
-// Byte i of a key.
-fn byte_of(key: u32, i: usize) -> u8
-    requires { i < key_bytes }
-    ensures { result ≡ byte_of key i }
-{
-    ((key >> (8 * i)) % 0x100) as u8
+    u32::from_le_bytes([bytes[at], bytes[at + 1], bytes[at + 2], bytes[at + 3]])
 }
 
 // How many keys were taken out of a buffer, and whether each is above the one before it.
@@ -51,7 +34,7 @@ pub fn keys_in(bytes: &[u8], keys: &mut [u32]) -> Intake
     requires { length keys.old ≤ suc list_limit }
     ensures { Taken bytes.now keys.old keys.new result.count result.ascending }
 {
-    let count = area::lesser(bytes.len() / KEY_BYTES, keys.len());
+    let count = (bytes.len() / KEY_BYTES).min(keys.len());
     if count == 0 {
         return Intake {
             count,
@@ -60,12 +43,10 @@ pub fn keys_in(bytes: &[u8], keys: &mut [u32]) -> Intake
     }
     keys[0] = key_at(bytes, 0);
     let mut falls: u32 = 0;
-    let mut i = 1;
-    while i < count {
+    for i in 1..count {
         let key = key_at(bytes, KEY_BYTES * i);
         keys[i] = key;
         falls += list::fall(key_at(bytes, KEY_BYTES * (i - 1)), key);
-        i += 1;
     }
     Intake {
         count,
@@ -78,11 +59,9 @@ pub fn put_keys(keys: &[u32], buffer: &mut [u8])
     requires { key_bytes * length keys.now ≤ length buffer.old }
     ensures { buffer.new ≡ bytes_of keys.now ++ drop (key_bytes * length keys.now) buffer.old }
 {
-    let end = KEY_BYTES * keys.len();
-    let mut j = 0;
-    while j < end {
-        buffer[j] = byte_of(keys[j / KEY_BYTES], j % KEY_BYTES);
-        j += 1;
+    for (i, key) in keys.iter().enumerate() {
+        let at = KEY_BYTES * i;
+        buffer[at..at + KEY_BYTES].copy_from_slice(&key.to_le_bytes());
     }
 }
 

@@ -13,14 +13,13 @@ use Rattle.rules.specs.Numbers.{samples, plan_of}
 use Rattle.rules.specs.Plans.{message_longest}
 use Rattle.rules.specs.Sketches.{sketch_of, blank, WellFormed}
 use Rattle.rules.specs.Messages.{message, message_length, longest_message}
-use Rattle.rules.specs.Refusals.{given}
+use Rattle.rules.specs.Refusals.{given, Answer}
 use Rattle.rules.specs.Tests.{refused_not_done}
 use Rattle.rules.specs.Calls.{sketch_answer, sketch_result, write_answer, write_length, write_buffer, read_result}
 use Rattle.rules.specs.Reconciling.{Left, Reconciles}
 use Rattle.rules.specs.declared.Sketch.{Sketch}
 use Rattle.rules.specs.declared.Refusal.{Refusal}
-use Rattle.rules.specs.declared.Answer.{Answer}
-use Rattle.rules.specs.declared.Answer.TheVariants.{Done, Refused}
+use Rattle.std.specs.Prelude.{Ok, Err}
 use Rattle.sketch.specs.Formed.{legal_formed}
 use Rattle.sketch.specs.Requested.{taken, accepted}
 use Rattle.message.specs.RoundTrip.{Reads, length_message, read_written}
@@ -28,15 +27,15 @@ use Rattle.promises.specs.Demands.{Within, Tells, demand_3_sketch}
 use Rattle.exchange.specs.Exchanged.{Sent, Exchanges}
 
 -- the sketch that a request which is not refused makes
-made : (request : ℕ) (dome : List ℕ) (s : Sketch) → sketch_answer request dome ≡ Done → s ≡ sketch_result request dome → s ≡ sketch_of (plan_of request) dome
+made : (request : ℕ) (dome : List ℕ) (s : Sketch) → sketch_answer request dome ≡ Ok tt → s ≡ sketch_result request dome → s ≡ sketch_of (plan_of request) dome
 made request dome s e h = h ∙ ap (λ a. given a (sketch_of (plan_of request) dome) blank) e
 
-module _ (request : ℕ) (dome : List ℕ) (s : Sketch) (done : sketch_answer request dome ≡ Done) (is : s ≡ sketch_result request dome) where
+module _ (request : ℕ) (dome : List ℕ) (s : Sketch) (done : sketch_answer request dome ≡ Ok tt) (is : s ≡ sketch_result request dome) where
   whole : WellFormed s
   whole = let t = taken request dome done in subst WellFormed (sym (made request dome s done is)) (legal_formed (plan_of request) dome t.0 t.1)
 
   module _ (buffer buffer' : List ℕ) (n : ℕ) (long : length buffer ≡ longest_message) (length-is : n ≡ write_length s (length buffer)) (buffer-is : buffer' ≡ write_buffer s buffer) where
-    back : (write_answer s (length buffer) ≡ Done) × Reads (take (write_length s (length buffer)) (write_buffer s buffer)) s
+    back : (write_answer s (length buffer) ≡ Ok tt) × Reads (take (write_length s (length buffer)) (write_buffer s buffer)) s
     back = read_written s whole buffer (omega (arith, message_longest s.plan, long))
 
     pub fits : n ≤ length buffer'
@@ -56,7 +55,7 @@ module _ (request : ℕ) (dome : List ℕ) (s : Sketch) (done : sketch_answer re
     pub sent_tells : Within (plan_of request) dome home → samples (plan_of request) ≤ length theirs → samples (plan_of request) ≤ length ours → Tells dome home theirs ours l
     sent_tells w rt ro = demand_3_sketch (plan_of request) dome home theirs ours l w rt ro r
 
-module _ (request : ℕ) (dome home theirs ours : List ℕ) (a : Answer) (r : Refusal) (is : a ≡ Refused r) (because : a ≡ sketch_answer request dome) where
+module _ (request : ℕ) (dome home theirs ours : List ℕ) (a : Answer) (r : Refusal) (is : a ≡ Err r) (because : a ≡ sketch_answer request dome) where
   abbrev untouched : Left
   untouched = record { answer = a; theirs_count = 0; ours_count = 0; theirs = theirs; ours = ours }
 

@@ -8,7 +8,6 @@ ghost use Rattle.promises.specs.Demands.{Within, Tells};
 ghost use Rattle.exchange.specs.Exchanged.{Exchanges, left};
 
 use reconcile::Reconciled;
-use rules::Answer;
 
 pub fn exchange(
     plan: u32,
@@ -21,19 +20,11 @@ pub fn exchange(
     ensures told { Within (plan_of plan) dome.now home.now → samples (plan_of plan) ≤ length theirs.old → samples (plan_of plan) ≤ length ours.old → Tells dome.now home.now theirs.old ours.old (left result theirs.new ours.new) }
 {
     let made = sketch::sketch(plan, dome);
-    let answer = made.answer;
-    if let Answer::Refused(_) = answer {
-        return Reconciled {
-            answer,
-            theirs: 0,
-            ours: 0,
-        };
+    if let Err(why) = made.answer {
+        return Reconciled::refused(why);
     }
-    let s = made.sketch;
     let mut buffer = [0u8; rules::LONGEST_MESSAGE];
-    let written = message::write(s, &mut buffer);
-    let length = written.length;
-    let got = message::read(&buffer[..length]);
-    let read = got.sketch;
-    reconcile::reconcile(read, home, theirs, ours)
+    let written = message::write(made.sketch, &mut buffer);
+    let read = message::read(&buffer[..written.length]);
+    reconcile::reconcile(read.sketch, home, theirs, ours)
 }

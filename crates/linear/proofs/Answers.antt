@@ -27,16 +27,16 @@ use Rattle.residue.specs.Field.{𝓕, res, zero_is, sub_is, res_mul, inverse_is,
 use Rattle.residue.specs.Folded.{digit_sum, digit_sum_most}
 use Rattle.linear.specs.Solved.{vector, matrix, Solution, Insoluble}
 use Rattle.linear.specs.Echelon.{Sifted, minus_one_ne_zero, echelon_none, sifted_of, kept, passed, refuted, closed_all, insoluble}
-use Rattle.linear.specs.Rows.{minus_inverse, group, Zeros, Loaded, Scaled, Related, SiftedTo, Refuted, Eliminated, Substituted}
+use Rattle.linear.specs.Rows.{minus_inverse, group, Loaded, Scaled, Related, Sifting, Refuted, Eliminated, Substituted}
 use Rattle.linear.proofs.Places.{inside}
 open 𝓕 use {ring as 𝓡, inv, inv_mul}
 open 𝓡 use {add, mul, neg, zero, one}
 
-pub related_none : {c : ℕ} {rows rel₀ rel : List ℕ} → length rel₀ ≡ c * (c + 1) → Zeros rel₀ rel → Related c 0 rows rel
-related_none {c} {rows} {rel₀} {rel} long z = record {
-  factors = λ k l. rw (z.new k (omega arith) (omega (arith, z.len))) (omega arith);
-  plain = λ p l _. z.new (p * (c + 1) + p) (omega arith) (omega (arith, inside p c (c + 1) l));
-  echelon = echelon_none 𝓡 (omega arith) (λ p j l m. ap res (z.new (p * (c + 1) + j) (omega arith) (omega (arith, inside p c (c + 1) l))) ∙ zero_is);
+pub related_none : {c : ℕ} {rows rel : List ℕ} → ((k : ℕ) → get_or rel k 0 ≡ 0) → Related c 0 rows rel
+related_none {c} {rows} {rel} z = record {
+  factors = λ k l. rw (z k) (omega arith);
+  plain = λ p l _. z (p * (c + 1) + p);
+  echelon = echelon_none 𝓡 (omega arith) (λ p j l m. ap res (z (p * (c + 1) + j)) ∙ zero_is);
 }
 
 pub minus_factor : {f : ℕ} (x : ℕ) → f ≡ minus_inverse x → f ≤ digit_sum_most
@@ -49,13 +49,13 @@ minus_one x e n =
     ∙ by_ring 𝓡 2 (λ i x. ((#0 ⊝ i) ⊗ x, ⊖ (i ⊗ x))) refl (inv (res x)) (res x)
     ∙ ap neg (inv_mul (res x) n)
 
-module _ {c i p : ℕ} {rows rel d₀ d₁ d : List ℕ} (s : Related c i rows rel) (l : Loaded (c + 1) rows i d₀ d₁) (z : SiftedTo c rel d₁ d p) where
+module _ {c i p : ℕ} {rows rel d₀ d₁ d : List ℕ} (s : Related c i rows rel) (l : Loaded (c + 1) rows i d₀ d₁) (z : Sifting c rel d₁ d p) where
   -- what is left of row i
   left : Sifted 𝓡 (c + 1) c p (matrix (c + 1) rel) (matrix (c + 1) rows i) (vector d)
-  left = sifted_of 𝓡 (matrix (c + 1) rows i) (λ j k. ap res (l.new j (omega arith) k).value) z.sifting.sifted
+  left = sifted_of 𝓡 (matrix (c + 1) rows i) (λ j k. ap res (l.new j (omega arith) k).value) z.sifted
 
-  pub kept_row : {f : ℕ} {rel' : List ℕ} → p < c → f ≡ minus_inverse (get_or d p 0) → Scaled (c + 1) d p f rel rel' → Related c (i + 1) rows rel'
-  kept_row {f} {rel'} m e r = record {
+  pub kept_row : {f : ℕ} {rel' : List ℕ} → p < c → matrix (c + 1) rel p p ≡ zero → ¬ (vector d p ≡ zero) → f ≡ minus_inverse (get_or d p 0) → Scaled (c + 1) d p f rel rel' → Related c (i + 1) rows rel'
+  kept_row {f} {rel'} m free some e r = record {
     factors = λ k o. elim (dec_lt k (p * (c + 1) + group p)) [
       | yes b ↦ before k o (λ a. omega (arith, b))
       | no a ↦ elim (dec_lt k (p * (c + 1) + (c + 1))) [
@@ -67,11 +67,11 @@ module _ {c i p : ℕ} {rows rel d₀ d₁ d : List ℕ} (s : Related c i rows r
       | yes i ↦ absurd (minus_one_ne_zero 𝓕 (sym (new p (omega arith) ∙ minus) ∙ (rw i at y)))
       | no n ↦ untouched q q k n (omega arith) ∙ s.plain q k (sym (old q q k n (omega arith)) ∙ y)
     ];
-    echelon = rw (add-one i) (kept 𝓕 s.echelon m left (matrix (c + 1) rel') (res f) (omega arith) (z.unused m) minus new old);
+    echelon = rw (add-one i) (kept 𝓕 s.echelon m left (matrix (c + 1) rel') (res f) (omega arith) free minus new old);
   }
     where
       minus : mul (res f) (vector d p) ≡ neg one
-      minus = minus_one (get_or d p 0) e (z.left m)
+      minus = minus_one (get_or d p 0) e some
 
       before : (k : ℕ) → k < length rel' → (p * (c + 1) + group p ≤ k → p * (c + 1) + (c + 1) ≤ k) → get_or rel' k 0 ≤ digit_sum_most
       before k o h = rw (r.old k h) (s.factors k (omega (arith, r.len)))
@@ -79,8 +79,8 @@ module _ {c i p : ℕ} {rows rel d₀ d₁ d : List ℕ} (s : Related c i rows r
       -- before its group the relation was unused, and d is cleared
       new : (j : ℕ) → j < c + 1 → matrix (c + 1) rel' p j ≡ mul (res f) (vector d j)
       new j o = elim (dec_lt j (group p)) [
-        | yes b ↦ ap res (r.old (p * (c + 1) + j) (λ a. absurd (omega arith))) ∙ s.echelon.shape.unused p m (z.unused m) j o
-            ∙ sym (ap (mul (res f)) (z.sifting.sifted.zeros j (omega arith)) ∙ mul_zero 𝓡 (res f))
+        | yes b ↦ ap res (r.old (p * (c + 1) + j) (λ a. absurd (omega arith))) ∙ s.echelon.shape.unused p m free j o
+            ∙ sym (ap (mul (res f)) (z.sifted.zeros j (omega arith)) ∙ mul_zero 𝓡 (res f))
         | no b ↦ ap res ((r.new (p * (c + 1) + j) (omega (arith, b)) (omega arith)).value ∙ ap (λ (k : ℕ). digit_sum (f * digit_sum (get_or d k 0))) (add-sub_cancel_left (p * (c + 1)) j))
             ∙ res_digit_sum (f * digit_sum (get_or d j 0)) ∙ res_mul f (digit_sum (get_or d j 0)) ∙ ap (mul (res f)) (res_digit_sum (get_or d j 0))
       ]
@@ -94,12 +94,9 @@ module _ {c i p : ℕ} {rows rel d₀ d₁ d : List ℕ} (s : Related c i rows r
       old : (q j : ℕ) → q < c → ¬ (q ≡ p) → j < c + 1 → matrix (c + 1) rel' q j ≡ matrix (c + 1) rel q j
       old q j k n o = ap res (untouched q j k n o)
 
-  pub last_row : {f : ℕ} → c ≤ p → f ≡ get_or d c 0 % modulus → Eliminated c (i + 1) rows rel (eqb f 0)
-  last_row {f} h e = go (eqb f 0) refl
+  pub last_row : {f : ℕ} → p ≡ c → f ≡ get_or d c 0 % modulus → Eliminated c (i + 1) rows rel (eqb f 0)
+  last_row {f} end e = go (eqb f 0) refl
     where
-      end : p ≡ c
-      end = omega (arith, z.sifting.bound)
-
       all : Sifted 𝓡 (c + 1) c c (matrix (c + 1) rel) (matrix (c + 1) rows i) (vector d)
       all = rw end at left
 

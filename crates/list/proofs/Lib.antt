@@ -1,3 +1,3 @@
--- A list told legal at a glance: Order. A key looked for by halving: Halving.
+-- A list told legal at a glance: Order. A key looked for: Searching.
 pub mod Order
-pub mod Halving
+pub mod Searching

@@ -14,7 +14,7 @@ use rules::{Answer, KEY_LIMIT, LIST_LIMIT, Refusal};
 pub fn fall(before: u32, key: u32) -> u32
     ensures { (result ≡ cond (leb key before) 1 0) × (result ≤ 1) }
 {
-    if key <= before { 1 } else { 0 }
+    u32::from(key <= before)
 }
 
 // Whether each key is above the one before it. No key ends the loop and none makes it branch, so that several are
@@ -23,11 +23,9 @@ fn ascends(keys: &[u32]) -> bool
     requires { length keys.now ≤ list_limit }
     ensures { Decides (Ascending keys.now) result }
 {
-    let mut falls: u32 = 0;
-    let mut i = 1;
-    while i < keys.len() {
-        falls += fall(keys[i - 1], keys[i]);
-        i += 1;
+    let mut falls = 0;
+    for pair in keys.windows(2) {
+        falls += fall(pair[0], pair[1]);
     }
     falls == 0
 }
@@ -36,12 +34,7 @@ fn ascends(keys: &[u32]) -> bool
 fn ends_legal(keys: &[u32]) -> bool
     ensures { result ≡ leb (get_or keys.now (length keys.now - 1) 0) key_limit }
 {
-    let n = keys.len();
-    if n == 0 {
-        true
-    } else {
-        keys[n - 1] <= KEY_LIMIT
-    }
+    keys.last().is_none_or(|&key| key <= KEY_LIMIT)
 }
 
 // The first bad key of a list that is not too long.
@@ -49,20 +42,17 @@ fn first_bad(keys: &[u32]) -> Answer
     requires { length keys.now ≤ list_limit }
     ensures { result ≡ keys_answer 0 0 keys.now }
 {
-    let mut least: u32 = 0;
-    let mut i = 0;
-    while i < keys.len() {
-        let key = keys[i];
+    let mut least = 0;
+    for (i, &key) in keys.iter().enumerate() {
         if KEY_LIMIT < key {
-            return Answer::Refused(Refusal::LargeKey(i as u32));
+            return Err(Refusal::LargeKey(i as u32));
         }
         if key < least {
-            return Answer::Refused(Refusal::UnorderedKey(i as u32));
+            return Err(Refusal::UnorderedKey(i as u32));
         }
         least = key + 1;
-        i += 1;
     }
-    Answer::Done
+    Ok(())
 }
 
 fn too_long(keys: &[u32]) -> bool
@@ -79,12 +69,10 @@ pub fn answer_told(keys: &[u32], ascending: bool) -> Answer
     ensures { result ≡ list_answer keys.now }
 {
     if too_long(keys) {
-        return Answer::Refused(Refusal::LongList);
+        return Err(Refusal::LongList);
     }
-    if ascending {
-        if ends_legal(keys) {
-            return Answer::Done;
-        }
+    if ascending && ends_legal(keys) {
+        return Ok(());
     }
     first_bad(keys)
 }
@@ -94,29 +82,16 @@ pub fn answer(keys: &[u32]) -> Answer
     ensures { result ≡ list_answer keys.now }
 {
     if too_long(keys) {
-        return Answer::Refused(Refusal::LongList);
+        return Err(Refusal::LongList);
     }
     answer_told(keys, ascends(keys))
 }
 
-// Whether an ascending list holds a key, by halving.
+// Whether an ascending list holds a key.
+#[tactic(auto, using(crate::proofs::Searching::found))]
 pub fn holds(keys: &[u32], key: u32) -> bool
     requires { Ascending keys.now }
     ensures { Decides (key ∈ keys.now) result }
 {
-    let mut low = 0;
-    let mut high = keys.len();
-    while low < high {
-        let middle = low + (high - low) / 2;
-        let at = keys[middle];
-        if at == key {
-            return true;
-        }
-        if at < key {
-            low = middle + 1;
-        } else {
-            high = middle;
-        }
-    }
-    false
+    keys.binary_search(&key).is_ok()
 }

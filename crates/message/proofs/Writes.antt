@@ -19,8 +19,8 @@ use Rattle.rules.specs.Messages.{bytes, fields, message_length, message}
 use Rattle.rules.specs.Calls.{write_answer, write_length, write_buffer}
 use Rattle.rules.specs.declared.Refusal.{Refusal}
 use Rattle.rules.specs.declared.Refusal.TheVariants.{MalformedSketch, ShortBuffer}
-use Rattle.rules.specs.declared.Answer.{Answer}
-use Rattle.rules.specs.declared.Answer.TheVariants.{Done, Refused}
+use Rattle.rules.specs.Refusals.{Answer}
+use Rattle.std.specs.Prelude.{Ok, Err}
 use Rattle.rules.specs.declared.Sketch.{Sketch}
 use Rattle.packing.specs.Positions.{field_bits}
 use Rattle.packing.specs.Packing.{bytes_length}
@@ -45,32 +45,32 @@ module _ (s : Sketch) (buffer : List ℕ) where
   abbrev whole : List ℕ
   whole = message s ++ drop (length (message s)) buffer
 
-  refuses : (r : Refusal) → write_answer s (length buffer) ≡ Refused r → Outcome (Refused r) 0 buffer
+  refuses : (r : Refusal) → write_answer s (length buffer) ≡ Err r → Outcome (Err r) 0 buffer
   refuses r e = (sym e, gives_refused (due s) 0 (write_answer s (length buffer)) r e, gives_refused whole buffer (write_answer s (length buffer)) r e)
 
-  pub malformed : well_formed s ≡ false → Outcome (Refused MalformedSketch) 0 buffer
+  pub malformed : well_formed s ≡ false → Outcome (Err MalformedSketch) 0 buffer
   unfolding write_answer
   malformed h = refuses MalformedSketch answer
     where
-      answer : write_answer s (length buffer) ≡ Refused MalformedSketch
+      answer : write_answer s (length buffer) ≡ Err MalformedSketch
       answer = rw (h)
 
-  pub short : well_formed s ≡ true → length buffer < due s → Outcome (Refused (ShortBuffer 0)) 0 buffer
+  pub short : well_formed s ≡ true → length buffer < due s → Outcome (Err (ShortBuffer 0)) 0 buffer
   unfolding write_answer
   short h l = refuses (ShortBuffer 0) answer
     where
-      answer : write_answer s (length buffer) ≡ Refused (ShortBuffer 0)
+      answer : write_answer s (length buffer) ≡ Err (ShortBuffer 0)
       answer = rw (h, lt-ltb (length buffer) (due s) l)
 
   -- where n bytes of the fields, those of m values, were put at the front
   pub packed : (m n : ℕ) (front : List ℕ) → well_formed s ≡ true → m ≡ samples s.plan → n ≡ due s → n ≤ length buffer
       → front ≡ bytes (length (take n buffer)) (field_bits s.plan s.size (take m s.values))
-      → Outcome Done n (front ++ drop n buffer)
+      → Outcome (Ok tt) n (front ++ drop n buffer)
   unfolding write_answer
   packed m n front h p e l f =
       (sym answer, e ∙ gives_done (due s) 0 (write_answer s (length buffer)) answer, ap₂ (λ (xs : List ℕ) (k : ℕ). xs ++ drop k buffer) all (e ∙ sym (message_length_lem s)) ∙ gives_done whole buffer (write_answer s (length buffer)) answer)
     where
-      answer : write_answer s (length buffer) ≡ Done
+      answer : write_answer s (length buffer) ≡ Ok tt
       answer = rw (h, le-ltb (length buffer) (due s) (rw e at l))
 
       all : front ≡ message s

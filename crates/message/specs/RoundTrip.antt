@@ -1,7 +1,7 @@
 -- A message and its sketch: what is written is read, and what read accepts is exactly the message of the sketch that it returns.
 --
 --   GoodValue v, Readable b        a value that a message may hold, and the tests of reading as facts
---   readable, accepted             read_answer b ≡ Done gives Readable b, and the other way round
+--   readable, accepted             read_answer b ≡ Ok tt gives Readable b, and the other way round
 --   length_message, below_message  a message has its plan's length, and each of its bytes is below 256
 --   message_field          a field of a message, as it stands in its bits
 --   Reads b s, result_in           reading b succeeds and gives s; which is the sketch that stands in b
@@ -16,7 +16,7 @@
 --   next_to_example, misses    bytes next to it, and the number by which each is refused
 --
 -- Assumes nothing.
-use Rattle.std.specs.Prelude.{◌≡◌, refl, false, cond, not, List, [], ◌∷◌, ◌++◌, map, ℕ, zero, suc, ◌+◌, ◌*◌, ◌-◌, ◌%◌, ◌^◌, ◌≤◌, ◌<◌, ltb, leb, eqb, length, take, drop, get_or, replicate}
+use Rattle.std.specs.Prelude.{◌≡◌, refl, false, cond, not, List, [], ◌∷◌, ◌++◌, map, ℕ, zero, suc, ◌+◌, ◌*◌, ◌-◌, ◌%◌, ◌^◌, ◌≤◌, ◌<◌, ltb, leb, eqb, length, take, drop, get_or, replicate, Ok}
 use Rattle.std.proofs.Common.{sym, ap, ap₂, ◌∙◌, ⊎_elim, eq-zero-or-pos, add-zero, zero-add, mod-eq_of_lt, arith, length-take, drop_of_length-le, drop-drop, get_or-take, take_at}
 use Rattle.std.proofs.Math.Path.{subst}
 use borrow.Author.Tests.{ltb-false, leb-false, eqb-true, eqb-false, not-false, lt-ltb, le-ltb, lt-leb, eq-eqb, ne_eqb}
@@ -27,14 +27,12 @@ use Rattle.algebra.specs.Tabulate.{tabulate, tabulate_ext, tabulate_self}
 use Rattle.rules.specs.Sketches.{slots, WellFormed, blank}
 use Rattle.rules.specs.Formed.{slots_at, slots_length, tested}
 use Rattle.rules.specs.Messages.{bits, number, bits_of_all, version, version_width, plan_width, plan_at, size_width, size_at, value_width, value_at, fields, message_length, bytes, message, field_at}
-use Rattle.rules.specs.Refusals.{number_of, when, ◌then◌, given}
+use Rattle.rules.specs.Refusals.{number_of, when, ◌then◌, given, Answer}
 use Rattle.rules.specs.Tests.{when_done, done_when, then_done, done_then, or_false}
 use Rattle.rules.specs.Calls.{write_answer, write_length, write_buffer, message_plan, message_samples, message_size, message_value, message_padding, values_answer, read_answer, sketch_in, read_result, bad_value}
 use Rattle.rules.specs.declared.Sketch.{Sketch}
 use Rattle.rules.specs.declared.Refusal.{Refusal}
 use Rattle.rules.specs.declared.Refusal.TheVariants.{WrongLength, UnknownVersion, LargeSize, BadValue, PaddingSet}
-use Rattle.rules.specs.declared.Answer.{Answer}
-use Rattle.rules.specs.declared.Answer.TheVariants.{Done}
 use Rattle.packing.specs.Packing.{Below, below_append, below_drop, padded, padded_self, padded_part, padded_again, bits_below, number_self, number_none, bits_number, all_length, all_below, all_number, blocks, all_blocks, bytes_length, bytes_below, all_bytes, bytes_all, field_bytes, field_below}
 
 -- "the first m are 1 to 65,536"
@@ -47,7 +45,7 @@ good_value v e = let p = or_false (eqb v 0) (leb modulus v) e in (omega (arith, 
 not_bad : (v : ℕ) → GoodValue v → bad_value v ≡ false
 not_bad v g = rw (ne_eqb v 0 (omega arith), lt-leb modulus v g.1)
 
-good_values : (b : List ℕ) (i n : ℕ) → values_answer b i n ≡ Done → (j : ℕ) → j < n → GoodValue (message_value b (i + j))
+good_values : (b : List ℕ) (i n : ℕ) → values_answer b i n ≡ Ok tt → (j : ℕ) → j < n → GoodValue (message_value b (i + j))
 good_values b i zero e j h = absurd (omega arith)
 good_values b i (suc n) e zero h =
     let p = then_done (when (bad_value (message_value b i)) (BadValue i)) (values_answer b (suc i) n) e in
@@ -57,7 +55,7 @@ good_values b i (suc n) e (suc j) h =
     let same : suc i + j ≡ i + suc j = omega arith in
     subst (λ (k : ℕ). GoodValue (message_value b k)) same (good_values b (suc i) n p.1 j (omega arith))
 
-values_good : (b : List ℕ) (i n : ℕ) → ((j : ℕ) → i ≤ j → j < i + n → GoodValue (message_value b j)) → values_answer b i n ≡ Done
+values_good : (b : List ℕ) (i n : ℕ) → ((j : ℕ) → i ≤ j → j < i + n → GoodValue (message_value b j)) → values_answer b i n ≡ Ok tt
 values_good b i zero g = refl
 values_good b i (suc n) g =
     done_then (when (bad_value (message_value b i)) (BadValue i)) (values_answer b (suc i) n)
@@ -91,7 +89,7 @@ module _ (b : List ℕ) where
   abbrev padding : Answer
   padding = when (not (eqb (message_padding b) 0)) PaddingSet
 
-  pub readable : read_answer b ≡ Done → Readable b
+  pub readable : read_answer b ≡ Ok tt → Readable b
   unfolding read_answer
   readable e =
       let k = (then_done some (known then whole then size then values then padding) e).1 in
@@ -99,7 +97,7 @@ module _ (b : List ℕ) where
       let s = then_done whole (size then values then padding) l.1 in
       let v = then_done size (values then padding) s.1 in
       let p = then_done values padding v.1 in
-      let equal : (x y : ℕ) (r : Refusal) → when (not (eqb x y)) r ≡ Done → x ≡ y = λ x y r d. eqb-true x y (not-false (eqb x y) (when_done (not (eqb x y)) r d)) in
+      let equal : (x y : ℕ) (r : Refusal) → when (not (eqb x y)) r ≡ Ok tt → x ≡ y = λ x y r d. eqb-true x y (not-false (eqb x y) (when_done (not (eqb x y)) r d)) in
       record {
         known = equal (field_at b 0 version_width) version UnknownVersion l.0;
         whole = equal (length b) (message_length (message_samples b)) WrongLength s.0;
@@ -108,10 +106,10 @@ module _ (b : List ℕ) where
         padding = equal (message_padding b) 0 PaddingSet p.1;
       }
 
-  pub accepted : Readable b → read_answer b ≡ Done
+  pub accepted : Readable b → read_answer b ≡ Ok tt
   unfolding read_answer
   accepted r =
-      let equal : (x y : ℕ) (q : Refusal) → x ≡ y → when (not (eqb x y)) q ≡ Done = λ x y q e. rw (eq-eqb x y e) in
+      let equal : (x y : ℕ) (q : Refusal) → x ≡ y → when (not (eqb x y)) q ≡ Ok tt = λ x y q e. rw (eq-eqb x y e) in
       done_then some (known then whole then size then values then padding) (done_when (eqb (length b) 0) WrongLength (ne_eqb (length b) 0 (λ z. omega (arith, r.whole))))
       (done_then known (whole then size then values then padding) (equal (field_at b 0 version_width) version UnknownVersion r.known)
       (done_then whole (size then values then padding) (equal (length b) (message_length (message_samples b)) WrongLength r.whole)
@@ -193,10 +191,10 @@ message_sketch s w =
 
 -- reading b succeeds and gives s
 pub record Reads (b : List ℕ) (s : Sketch) : Type 0 where
-  pub done : read_answer b ≡ Done
+  pub done : read_answer b ≡ Ok tt
   pub gives : read_result b ≡ s
 
-pub result_in : (b : List ℕ) → read_answer b ≡ Done → read_result b ≡ sketch_in b
+pub result_in : (b : List ℕ) → read_answer b ≡ Ok tt → read_result b ≡ sketch_in b
 result_in b e = ap (λ a. given a (sketch_in b) blank) e
 
 pub read_message : (s : Sketch) → WellFormed s → Reads (message s) s
@@ -271,18 +269,18 @@ read_bytes b f r =
     sym (bytes_all (message (sketch_in b)) (below_message (sketch_in b)))
     ∙ ap₂ bytes (length_message (sketch_in b) ∙ sym r.whole) (message_bits b r) ∙ bytes_all b f
 
-pub message_read : (b : List ℕ) → Below 256 b → read_answer b ≡ Done → WellFormed (read_result b) × (message (read_result b) ≡ b)
+pub message_read : (b : List ℕ) → Below 256 b → read_answer b ≡ Ok tt → WellFormed (read_result b) × (message (read_result b) ≡ b)
 message_read b f e = let r = readable b e in subst (λ s. WellFormed s × (message s ≡ b)) (sym (result_in b e)) (read_formed b r, read_bytes b f r)
 
 pub one_message : (s t : Sketch) → WellFormed s → WellFormed t → message s ≡ message t → s ≡ t
 one_message s t v w e = sym (message_sketch s v) ∙ ap sketch_in e ∙ message_sketch t w
 
-write_done : (s : Sketch) → WellFormed s → (room : ℕ) → message_length (samples s.plan) ≤ room → write_answer s room ≡ Done
+write_done : (s : Sketch) → WellFormed s → (room : ℕ) → message_length (samples s.plan) ≤ room → write_answer s room ≡ Ok tt
 unfolding write_answer
 write_done s w room h = rw (tested s w, le-ltb room (message_length (samples s.plan)) h)
 
 pub read_written : (s : Sketch) → WellFormed s → (buffer : List ℕ) → message_length (samples s.plan) ≤ length buffer
-    → (write_answer s (length buffer) ≡ Done) × Reads (take (write_length s (length buffer)) (write_buffer s buffer)) s
+    → (write_answer s (length buffer) ≡ Ok tt) × Reads (take (write_length s (length buffer)) (write_buffer s buffer)) s
 read_written s w buffer h =
     let done = write_done s w (length buffer) h in
     let m : ℕ = samples s.plan in

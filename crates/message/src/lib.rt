@@ -1,14 +1,16 @@
 // Document 01, "Message bits": a sketch written as a message, and a message read back.
 #![tactic(auto)]
 
-ghost use Rattle.std.specs.Prelude.{◌≡◌, true, length};
-ghost use Rattle.rules.specs.Sketches.{blank, well_formed};
+ghost use Rattle.std.specs.Prelude.{◌≡◌, true, length, Ok};
+ghost use Rattle.std.specs.Result.{result_and};
+ghost use Rattle.rules.specs.Sketches.{well_formed};
 ghost use Rattle.rules.specs.Filled.{sketch_from};
-ghost use Rattle.rules.specs.Calls.{write_answer, write_length, write_buffer, read_answer, read_result};
+ghost use Rattle.rules.specs.Calls.{write_answer, write_length, write_buffer, read_answer, sketch_in, read_result};
 
 use rules::{Answer, Refusal, Sketch, Sketched};
 
 // What a write answers, and the length of the message that it wrote, 0 if it refused.
+// Stays a pair: "On refusal .. a write [returns] the length 0", so there is a length in both cases.
 #[derive(Clone, Copy)]
 pub struct Written {
     pub answer: Answer,
@@ -24,13 +26,13 @@ pub fn write_formed(plan: u8, size: u32, values: &[u32], buffer: &mut [u8]) -> W
     let n = packing::message_length(m);
     if buffer.len() < n {
         return Written {
-            answer: Answer::Refused(Refusal::ShortBuffer(0)),
+            answer: Err(Refusal::ShortBuffer(0)),
             length: 0,
         };
     }
     packing::fill(plan as u32, size, &values[..m], &mut buffer[..n]);
     Written {
-        answer: Answer::Done,
+        answer: Ok(()),
         length: n,
     }
 }
@@ -41,53 +43,49 @@ pub fn write(s: Sketch, buffer: &mut [u8]) -> Written
 {
     if !plan::well_formed(s) {
         return Written {
-            answer: Answer::Refused(Refusal::MalformedSketch),
+            answer: Err(Refusal::MalformedSketch),
             length: 0,
         };
     }
-    let plan = s.plan;
-    let size = s.size;
-    write_formed(plan, size, &s.values, buffer)
+    write_formed(s.plan, s.size, &s.values, buffer)
 }
 
-// A read that is refused gives the blank sketch.
-fn refused(refusal: Refusal) -> Sketched
-    ensures { (result.answer ≡ Answer.Refused refusal) × (result.sketch ≡ blank) }
+// The sketch that stands in a message, or why none does: "7 if empty, 8, 7, 9, the first 10, 11."
+fn sketch_in(message: &[u8]) -> Result<Sketch, Refusal>
+    ensures { result ≡ result_and (read_answer message.now) (Ok (sketch_in message.now)) }
 {
-    Sketched {
-        answer: Answer::Refused(refusal),
-        sketch: plan::blank(),
-    }
-}
-
-// "Read: 7 if empty, 8, 7, 9, the first 10, 11."
-pub fn read(message: &[u8]) -> Sketched
-    ensures { (result.answer ≡ read_answer message.now) × (result.sketch ≡ read_result message.now) }
-{
-    if message.len() == 0 {
-        return refused(Refusal::WrongLength);
+    if message.is_empty() {
+        return Err(Refusal::WrongLength);
     }
     let header = unpacking::read_header(message);
     if header.version != packing::VERSION {
-        return refused(Refusal::UnknownVersion);
+        return Err(Refusal::UnknownVersion);
     }
     let plan = header.plan as u8;
     let m = plan::samples(plan);
     if message.len() != packing::message_length(m) {
-        return refused(Refusal::WrongLength);
+        return Err(Refusal::WrongLength);
     }
     let size = header.size;
     if rules::LIST_LIMIT < size {
-        return refused(Refusal::LargeSize);
+        return Err(Refusal::LargeSize);
     }
-    let body = unpacking::read_body(message, m);
-    let answer = body.answer;
-    let values = body.values;
-    match answer {
-        Answer::Done => Sketched {
-            answer,
-            sketch: Sketch { plan, size, values },
+    let values = unpacking::read_body(message, m)?;
+    Ok(Sketch { plan, size, values })
+}
+
+// A read that is refused gives the blank sketch.
+pub fn read(message: &[u8]) -> Sketched
+    ensures { (result.answer ≡ read_answer message.now) × (result.sketch ≡ read_result message.now) }
+{
+    match sketch_in(message) {
+        Ok(sketch) => Sketched {
+            answer: Ok(()),
+            sketch,
         },
-        Answer::Refused(refusal) => refused(refusal),
+        Err(refusal) => Sketched {
+            answer: Err(refusal),
+            sketch: plan::blank(),
+        },
     }
 }

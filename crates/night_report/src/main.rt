@@ -10,6 +10,7 @@ use std::io::Read;
 const ROOM: usize = report::INPUT_LIMIT + 1;
 
 // Bytes from a reader to its end, or as many as there is room for; how many.
+// Stays by place: a read fills as much as it likes, and the library's `read_to_end` wants a heap.
 fn read_full<R: Read>(reader: &mut R, buffer: &mut [u8]) -> io::Result<usize>
     ensures { IfOk result (λ n. n ≤ length buffer.old) }
 {
@@ -28,7 +29,5 @@ fn main(rt: HostRuntime) -> io::Result<()> {
     let mut input = [0u8; ROOM];
     let n = read_full(&mut rt.reader(), &mut input)?;
     let text = report::report(&input[..n]);
-    let bytes = text.bytes;
-    let length = text.length;
-    rt.write_all(&bytes[..length])
+    rt.write_all(&text.bytes[..text.length])
 }

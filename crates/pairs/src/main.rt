@@ -1,182 +1,90 @@
-// Random pairs of sets through `exchange`, whose differences are found a second time by merging the two lists: the
-// line that is printed says how often the two agree.
+// Random pairs of sets through `exchange`, whose differences are found a second time by looking for each key of one
+// list in the other: the line that is printed says how often the two agree.
 #![tactic(auto)]
 
-ghost use Rattle.std.specs.Prelude.{◌≡◌, true, not, ◌||◌, ◌≤◌, ◌<◌, length};
+ghost use Rattle.std.specs.Prelude.{◌≡◌, ◌==◌, not, ◌≤◌, ◌<◌, filter, length};
+ghost use Rattle.std.specs.List.{list_any};
 
-use reconcile::Reconciled;
-use rules::Answer;
+use arrayvec::ArrayVec;
+use draws::Draws;
 use std::io;
 
 // The most keys of a set, and the room for a difference: that of 64 samples.
 const KEYS: usize = rules::MOST_SAMPLES;
 
+type Keys = ArrayVec<u32, KEYS>;
+
 // Key j of a pair is one of the 1,000 numbers from j times this on.
 const PART: u32 = 1000;
 
-const PAIRS: u32 = 128;
+const PAIRS: u16 = 128;
 
-// The next number of a small fixed generator.
-fn next(x: u32) -> u32
-    requires { x < 65536 }
-    ensures { result < 65536 }
-{
-    (x * 25173 + 13849) % 65536
-}
-
-// Whether one side has a key: either both have it, or the side that is picked.
-fn has(differs: bool, picked: bool) -> bool
-    ensures { result ≡ (not differs || picked) }
-{
-    if differs { picked } else { true }
-}
-
-// How many keys of each set were drawn.
-#[derive(Clone, Copy)]
-struct Drawn {
-    dome: usize,
-    home: usize,
+// Two sets, their keys in order.
+#[derive(Drop)]
+struct Sets {
+    dome: Keys,
+    home: Keys,
 }
 
 // Two sets, drawn from so many numbers by a seed. At most `most` keys are in one of them alone: about `often` of
 // eight, and of these `lean` of four at the dome.
-fn draw(
-    seed: u32,
-    count: usize,
-    most: usize,
-    often: u32,
-    lean: u32,
-    dome: &mut [u32],
-    home: &mut [u32],
-) -> Drawn
-    requires { (seed < 65536) × (count ≤ 64) × (length dome.old ≡ 64) × (length home.old ≡ 64) }
-    ensures { (result.dome ≤ 64) × (result.home ≤ 64) }
+fn draw(seed: u16, count: usize, most: usize, often: u16, lean: u16) -> Sets
+    requires { count ≤ 64 }
 {
-    let mut x = seed;
-    let mut a = 0;
-    let mut b = 0;
-    let mut j = 0;
-    while j < count {
-        x = next(x);
-        let key = j as u32 * PART + x % PART;
-        let apart = 2 * j - a - b;
-        let differs = if apart < most {
-            x / 8192 < often
-        } else {
-            false
-        };
+    let mut draws = Draws { last: seed };
+    let mut dome = Keys::new();
+    let mut home = Keys::new();
+    for j in 0..count {
+        let x = draws.draw();
+        let key = j as u32 * PART + u32::from(x) % PART;
+        let apart = 2 * j - dome.len() - home.len();
+        let differs = apart < most && x / 8192 < often;
         let at_dome = x / 1024 % 4 < lean;
-        a = area::put(has(differs, at_dome), key, dome, a);
-        b = area::put(has(differs, !at_dome), key, home, b);
-        j += 1;
-    }
-    Drawn { dome: a, home: b }
-}
-
-// The first index from `start` on where an ascending list has no smaller number than a key.
-fn reach(list: &[u32], start: usize, key: u32) -> usize
-    ensures { start ≤ result }
-{
-    let mut i = start;
-    while i < list.len() {
-        if key <= list[i] {
-            return i;
+        if !differs || at_dome {
+            dome.push(key);
         }
-        i += 1;
-    }
-    i
-}
-
-// Whether a key stands at an index of a list.
-fn stands(list: &[u32], i: usize, key: u32) -> bool
-    ensures { result ≡ true → i < length list.now }
-{
-    if i < list.len() {
-        list[i] == key
-    } else {
-        false
-    }
-}
-
-// The numbers of an ascending list that another lacks, by walking along both; answers how many.
-fn lacking(list: &[u32], other: &[u32], out: &mut [u32]) -> usize
-    requires { length list.now ≤ length out.old }
-    ensures { result ≤ length list.now }
-{
-    let mut n = 0;
-    let mut j = 0;
-    let mut i = 0;
-    while i < list.len() {
-        let key = list[i];
-        j = reach(other, j, key);
-        n = area::put(!stands(other, j, key), key, out, n);
-        i += 1;
-    }
-    n
-}
-
-// Whether two lists are the same.
-fn same(a: &[u32], b: &[u32]) -> bool
-    ensures { result ≡ true → length a.now ≡ length b.now }
-{
-    if a.len() != b.len() {
-        return false;
-    }
-    let mut i = 0;
-    while i < a.len() {
-        if a[i] != b[i] {
-            return false;
+        if !differs || !at_dome {
+            home.push(key);
         }
-        i += 1;
     }
-    true
+    Sets { dome, home }
 }
 
-// 1 where home is told just what the two lists lack of each other, else 0.
-fn agreement(plan: u32, dome: &[u32], home: &[u32]) -> u32
+// The numbers of a list that another lacks.
+fn lacking(list: &[u32], other: &[u32]) -> Keys
+    requires { length list.now ≤ 64 }
+    ensures { result.items ≡ filter (λ key. not (list_any (λ y. y == key) other.now)) list.now }
+{
+    let mut keys = Keys::new();
+    for key in list {
+        if !other.contains(key) {
+            keys.push(*key);
+        }
+    }
+    keys
+}
+
+// Whether home is told just what the two lists lack of each other.
+// Stays over two buffers with counts: `exchange` fills what it is lent, as the C entries do.
+fn agrees(plan: u32, dome: &[u32], home: &[u32]) -> bool
     requires { (length dome.now ≤ 64) × (length home.now ≤ 64) }
-    ensures { result ≤ 1 }
 {
-    let mut theirs = [0u32; KEYS];
-    let mut ours = [0u32; KEYS];
-    let told: Reconciled = exchange::exchange(plan, dome, home, &mut theirs, &mut ours);
-    let mut new = [0u32; KEYS];
-    let mut held = [0u32; KEYS];
-    let n = lacking(dome, home, &mut new);
-    let h = lacking(home, dome, &mut held);
-    let answer = told.answer;
-    let t = told.theirs;
-    let o = told.ours;
-    if let Answer::Refused(_) = answer {
-        return 0;
-    }
-    if !same(&theirs[..t], &new[..n]) {
-        return 0;
-    }
-    if same(&ours[..o], &held[..h]) { 1 } else { 0 }
+    let mut theirs = [0; KEYS];
+    let mut ours = [0; KEYS];
+    let told = exchange::exchange(plan, dome, home, &mut theirs, &mut ours);
+    told.answer.is_ok()
+        && &theirs[..told.theirs] == lacking(dome, home).as_slice()
+        && &ours[..told.ours] == lacking(home, dome).as_slice()
 }
 
 // One pair under a plan. The round says how many numbers are drawn from, how often the sets differ, and on which side.
-fn pair(plan: u32, round: u32, seed: u32) -> u32
-    requires { (plan < 16) × (round < 8) × (seed < 65536) }
-    ensures { result ≤ 1 }
+fn pair(plan: u16, round: u16, seed: u16) -> bool
+    requires { (plan < 16) × (round < 8) }
 {
     let most = plan::samples(plan as u8);
-    let mut dome = [0u32; KEYS];
-    let mut home = [0u32; KEYS];
-    let count = 8 * (round as usize + 1);
-    let drawn = draw(
-        seed,
-        count,
-        most,
-        round + 1,
-        round % 5,
-        &mut dome,
-        &mut home,
-    );
-    let a = drawn.dome;
-    let b = drawn.home;
-    agreement(plan, &dome[..a], &home[..b])
+    let count = 8 * (usize::from(round) + 1);
+    let drawn = draw(seed, count, most, round + 1, round % 5);
+    agrees(u32::from(plan), &drawn.dome, &drawn.home)
 }
 
 // Eight rounds under each plan; answers how often there was agreement.
@@ -184,10 +92,10 @@ fn pairs() -> u32
     ensures { result ≤ 128 }
 {
     let mut agreed = 0;
-    let mut i = 0;
-    while i < PAIRS {
-        agreed += pair(i / 8, i % 8, i * 509);
-        i += 1;
+    for i in 0..PAIRS {
+        if pair(i / 8, i % 8, 509 * i) {
+            agreed += 1;
+        }
     }
     agreed
 }

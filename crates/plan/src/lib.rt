@@ -17,23 +17,16 @@ const SAMPLES: [u8; 16] = [1, 2, 3, 4, 6, 8, 10, 12, 16, 20, 24, 28, 32, 40, 48,
 pub fn samples(plan: u8) -> usize
     ensures { result ≡ samples plan }
 {
-    let table = SAMPLES;
-    if (plan as u32) < PLANS {
-        table[plan as usize] as usize
-    } else {
-        0
-    }
+    SAMPLES
+        .get(usize::from(plan))
+        .map_or(0, |&m| usize::from(m))
 }
 
 // Whether a request names no plan.
 pub fn unknown(request: u32) -> bool
     ensures { result ≡ unknown_plan request }
 {
-    if request < PLANS {
-        false
-    } else {
-        request != USUAL_REQUEST
-    }
+    PLANS <= request && request != USUAL_REQUEST
 }
 
 // The plan code that the sketch of a request carries.
@@ -53,7 +46,7 @@ pub fn code_of(request: u32) -> u8
 fn bad_value(v: u32) -> u32
     ensures { Fault Value v result }
 {
-    std::num::wrapping_sub_u32(v, 1) / (Residue::MODULUS - 1)
+    v.wrapping_sub(1) / (Residue::MODULUS - 1)
 }
 
 // 0 where the first m slots are good, and nowhere else.
@@ -62,10 +55,8 @@ fn bad_values(m: usize, values: &[u32; MOST_SAMPLES]) -> u32
     ensures { Faults Value 0 m values.now result }
 {
     let mut bad = 0;
-    let mut i = 0;
-    while i < m {
-        bad |= bad_value(values[i]);
-        i += 1;
+    for &value in &values[..m] {
+        bad |= bad_value(value);
     }
     bad
 }
@@ -76,10 +67,8 @@ fn bad_rests(m: usize, values: &[u32; MOST_SAMPLES]) -> u32
     ensures { Faults Unused m most_samples values.now result }
 {
     let mut bad = 0;
-    let mut i = m;
-    while i < MOST_SAMPLES {
-        bad |= values[i];
-        i += 1;
+    for &rest in &values[m..] {
+        bad |= rest;
     }
     bad
 }
@@ -90,10 +79,7 @@ pub fn formed(plan: u8, size: u32, values: &[u32; MOST_SAMPLES]) -> bool
     requires { length values.now ≡ most_samples }
     ensures { result ≡ well_formed (sketch_from plan size values.now) }
 {
-    if PLANS <= plan as u32 {
-        return false;
-    }
-    if LIST_LIMIT < size {
+    if PLANS <= u32::from(plan) || LIST_LIMIT < size {
         return false;
     }
     let m = samples(plan);
@@ -104,9 +90,7 @@ pub fn formed(plan: u8, size: u32, values: &[u32; MOST_SAMPLES]) -> bool
 pub fn well_formed(s: Sketch) -> bool
     ensures { result ≡ well_formed s }
 {
-    let plan = s.plan;
-    let size = s.size;
-    formed(plan, size, &s.values)
+    formed(s.plan, s.size, &s.values)
 }
 
 // The blank sketch, which a refused sketch or read returns.

@@ -10,7 +10,7 @@
 --   no_key                 a test that the checker computes over every legal key
 --
 -- Assumes nothing.
-use Rattle.std.specs.Prelude.{◌≡◌, refl, Bool, true, ◌&&◌, List, [], ◌∷◌, ◌++◌, ℕ, zero, suc, ◌+◌, ◌-◌, ◌≤◌, ◌<◌, length, take, drop}
+use Rattle.std.specs.Prelude.{◌≡◌, refl, Bool, true, ◌&&◌, List, [], ◌∷◌, ◌++◌, ℕ, zero, suc, ◌+◌, ◌-◌, ◌≤◌, ◌<◌, length, take, drop, Ok, Err}
 use Rattle.std.proofs.Common.{sym, ap, subst, ◌∙◌, inl, inr, ⊎_elim, eq-zero-or-pos, arith}
 use Rattle.rules.specs.Numbers.{key_limit, samples, point, LegalKey}
 use Rattle.rules.specs.Sketches.{value, sketch_of, well_formed}
@@ -21,7 +21,6 @@ use Rattle.rules.specs.Tests.{and_true}
 use Rattle.rules.specs.Reconciling.{DifferenceOf, None, Left, After, Reconciles}
 use Rattle.rules.specs.declared.Sketch.{Sketch}
 use Rattle.rules.specs.declared.Refusal.TheVariants.{NoDifference}
-use Rattle.rules.specs.declared.Answer.TheVariants.{Done, Refused}
 use Rattle.rules.specs.Formed.{formed}
 use Rattle.rules.specs.Legal.{legal}
 use Rattle.reconcile.specs.Passing.{passes_tests}
@@ -41,7 +40,7 @@ Always s home outcome = (theirs ours : List ℕ) → samples s.plan ≤ length t
 
 abbrev pub told : List ℕ → List ℕ → List ℕ → List ℕ → Left
 told new held theirs ours = record {
-  answer = Done;
+  answer = Ok tt;
   theirs_count = length new;
   ours_count = length held;
   theirs = new ++ drop (length new) theirs;
@@ -49,7 +48,7 @@ told new held theirs ours = record {
 }
 
 abbrev pub refused_13 : List ℕ → List ℕ → Left
-refused_13 theirs ours = record { answer = Refused NoDifference; theirs_count = 0; ours_count = 0; theirs = theirs; ours = ours }
+refused_13 theirs ours = record { answer = Err NoDifference; theirs_count = 0; ours_count = 0; theirs = theirs; ours = ours }
 
 abbrev pub Holds : Claim → Type 0
 Holds (value_is keys sample v) = value keys (point sample) ≡ v
@@ -62,11 +61,11 @@ Holds (refuses_13 s home) = Always s home refused_13
 -- what reconcile tests, but for the room
 pub record Ready (s : Sketch) (home : List ℕ) : Type 0 where
   pub whole : well_formed s ≡ true
-  pub listed : list_answer home ≡ Done
+  pub listed : list_answer home ≡ Ok tt
   pub low : length home ≤ s.size + samples s.plan
   pub high : s.size ≤ length home + samples s.plan
 
-passing : (s : Sketch) (home : List ℕ) → Ready s home → (theirs ours : ℕ) → samples s.plan ≤ theirs → samples s.plan ≤ ours → reconcile_tests s home theirs ours ≡ Done
+passing : (s : Sketch) (home : List ℕ) → Ready s home → (theirs ours : ℕ) → samples s.plan ≤ theirs → samples s.plan ≤ ours → reconcile_tests s home theirs ours ≡ Ok tt
 passing s home r theirs ours rt ro =
     passes_tests s home theirs ours (record { whole = formed s r.whole; listed = legal home r.listed; theirs_room = rt; ours_room = ro; low = r.low; high = r.high })
 

@@ -8,7 +8,7 @@
 --   demand_3_apart         two legal sets, each within m of B, that share a message under one plan are one set
 --
 -- Assumes nothing.
-use Rattle.std.specs.Prelude.{◌≡◌, cond, List, ◌++◌, ℕ, suc, ◌+◌, ◌≤◌, ◌<◌, length, get_or, drop}
+use Rattle.std.specs.Prelude.{◌≡◌, cond, List, ◌++◌, ℕ, suc, ◌+◌, ◌≤◌, ◌<◌, length, get_or, drop, Ok}
 use Rattle.std.proofs.Common.{sym, ap, subst, ◌∙◌, inl, inr, arith, lt-ltb, lit<, length-append}
 use Rattle.std.proofs.Math.Decide.{ℕ_discrete}
 use Rattle.algebra.specs.Sets.{◌∈◌, ◌⊆◌, ascending_distinct, ascending_ext, without, without_mem, mem_without, without_ascending, cover, length_perm, mem?}
@@ -20,7 +20,6 @@ use Rattle.rules.specs.Formed.{slots_at}
 use Rattle.rules.specs.Messages.{message}
 use Rattle.rules.specs.Calls.{read_result}
 use Rattle.rules.specs.Reconciling.{DifferenceOf, Left, After, Reconciles}
-use Rattle.rules.specs.declared.Answer.TheVariants.{Done}
 use Rattle.gap.specs.Gap.{eq_gap}
 use Rattle.reconcile.specs.Passing.{Passing, passes_tests}
 use Rattle.sketch.specs.Formed.{legal_formed}
@@ -70,7 +69,7 @@ sets_difference plan A B hA hB bound = record {
 
 -- what home is told: exactly A without B and B without A, in the first entries of the two buffers, and success
 pub record Tells (A B theirs ours : List ℕ) (left : Left) : Type 0 where
-  pub answer : left.answer ≡ Done
+  pub answer : left.answer ≡ Ok tt
   pub theirs_count : left.theirs_count ≡ length (A ∖ B)
   pub ours_count : left.ours_count ≡ length (B ∖ A)
   pub theirs_filled : left.theirs ≡ (A ∖ B) ++ drop (length (A ∖ B)) theirs
@@ -101,7 +100,7 @@ demand_3_sketch plan A B theirs ours left w rt ro r = go (subst (λ t. After t (
       high = omega (arith, counts A B w.first.keys w.second.keys, w.bound);
     }
 
-    go : After Done (sketch_of plan A) B theirs ours left → Tells A B theirs ours left
+    go : After (Ok tt) (sketch_of plan A) B theirs ours left → Tells A B theirs ours left
     go (inr n) = absurd (n.0 (A ∖ B) (B ∖ A) d)
     go (inl f) = record {
       answer = f.answer;

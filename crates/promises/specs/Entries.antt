@@ -6,12 +6,12 @@
 --   entry_7                case 7 through vlomdar_reconcile, in two buffers of two keys
 --
 -- Assumes nothing.
-use Rattle.std.specs.Prelude.{◌≡◌, ◌⊎◌, List, [], ◌∷◌, ◌++◌, ℕ, ◌*◌, length, take, drop, replicate}
+use Rattle.std.specs.Prelude.{◌≡◌, ◌⊎◌, List, [], ◌∷◌, ◌++◌, ℕ, ◌*◌, length, take, drop, replicate, Ok, Err}
 use Rattle.std.proofs.Common.{sym, subst, ◌∙◌, lit≤, take_at}
 use Rattle.std.proofs.Math.Path.{ap, ap₂}
 use Rattle.std.proofs.Math.Logic.{inl, inr}
 use Rattle.algebra.specs.Tabulate.{tabulate}
-use Rattle.rules.specs.Refusals.{number_of, place_of, number_of_refusal, place_of_refusal}
+use Rattle.rules.specs.Refusals.{number_of, place_of, number_of_refusal, place_of_refusal, Answer}
 use Rattle.rules.specs.Cases.{sketch_2, difference_7}
 use Rattle.computed.specs.CallCases.{message_7, read_7, sketch_7}
 use Rattle.rules.specs.Calls.{read_result, reconcile_tests}
@@ -20,8 +20,6 @@ use Rattle.rules.specs.Entries.{key_bytes, keys_of, bytes_of, packed, front_byte
 use Rattle.rules.specs.declared.Sketch.{Sketch}
 use Rattle.rules.specs.declared.Refusal.{Refusal}
 use Rattle.rules.specs.declared.Refusal.TheVariants.{NoDifference}
-use Rattle.rules.specs.declared.Answer.{Answer}
-use Rattle.rules.specs.declared.Answer.TheVariants.{Done, Refused}
 use Rattle.promises.specs.Unique.{reconcile_one}
 use Rattle.promises.specs.Claims.{told, told_holds}
 use Rattle.promises.specs.Starred.{ready_7}
@@ -51,8 +49,8 @@ unfolding EntryReconciles
 reconcile_entry_one message home theirs ours a b = go (reconcile_entry_tests message home theirs ours)
   where
     go : (t : Answer) → EntryAfter t (read_result message) home theirs ours a → EntryAfter t (read_result message) home theirs ours b → a ≡ b
-    go (Refused r) x y = x ∙ sym y
-    go Done x y = keys_one (read_result message) home theirs ours a b x y
+    go (Err r) x y = x ∙ sym y
+    go (Ok _) x y = keys_one (read_result message) home theirs ours a b x y
 
 pub record FindsBytes (s : Sketch) (home theirs ours : List ℕ) (left : EntryLeft) : Type 0 where
   pub new : List ℕ
@@ -95,9 +93,9 @@ module _ (s : Sketch) (home theirs ours : List ℕ) (left : EntryLeft) (x : Reco
   entry_says = go (reconcile_tests s (keys_of home) (length (keys_of theirs)) (length (keys_of ours))) x.reconciles
     where
       go : (a : Answer) → After a s (keys_of home) (keys_of theirs) (keys_of ours) x.keys → FindsBytes s home theirs ours left ⊎ ((r : Refusal) × RefusesBytes r theirs ours left)
-      go (Refused r) f = inr (r, refused r f)
-      go Done (inl f) = inl (found f)
-      go Done (inr f) = inr (NoDifference, refused NoDifference f.1)
+      go (Err r) f = inr (r, refused r f)
+      go (Ok _) (inl f) = inl (found f)
+      go (Ok _) (inr f) = inr (NoDifference, refused NoDifference f.1)
 
 -- "message with home list to two lists": the message 110002fffd7ffe00 and home 1 give theirs 3 and ours 1, and the second key of each buffer stays
 abbrev home_7 : List ℕ

@@ -5,7 +5,7 @@
 --   example_output         of document 01's example the output is its three lines
 --
 -- Assumes nothing.
-use Rattle.std.specs.Prelude.{◌≡◌, List, [], ◌∷◌, ◌++◌, ℕ, ◌-◌, ◌≤◌, length, take, drop, replicate}
+use Rattle.std.specs.Prelude.{◌≡◌, List, [], ◌∷◌, ◌++◌, ℕ, ◌-◌, ◌≤◌, length, take, drop, replicate, Ok, Err}
 use Rattle.std.proofs.Common.{sym, ap, ap₂, subst, ◌∙◌, arith, lit≤, take-append-drop, length-take-le}
 use Rattle.rules.specs.Calls.{read_answer, read_result}
 use Rattle.rules.specs.Reconciling.{Left}
@@ -14,8 +14,7 @@ use Rattle.rules.specs.Cases.{sketch_2, difference_7}
 use Rattle.computed.specs.CallCases.{message_7, read_7, sketch_7}
 use Rattle.computed.specs.ReportCases.{example, example_form, example_text}
 use Rattle.rules.specs.declared.Sketch.{Sketch}
-use Rattle.rules.specs.declared.Answer.{Answer}
-use Rattle.rules.specs.declared.Answer.TheVariants.{Done, Refused}
+use Rattle.rules.specs.Refusals.{Answer}
 use Rattle.promises.specs.Unique.{reconcile_one}
 use Rattle.promises.specs.Claims.{told_holds}
 use Rattle.promises.specs.Starred.{ready_7}
@@ -25,8 +24,8 @@ reconciled_one s keys a b x y =
     x.written ∙ ap (λ (left : Left). answered left.answer s keys left) (reconcile_one s keys room room x.left y.left x.reconciles y.reconciles) ∙ sym y.written
 
 after_read_one : (answer : Answer) (s : Sketch) (keys a b : List ℕ) → AfterRead answer s keys a → AfterRead answer s keys b → a ≡ b
-after_read_one (Refused r) s keys a b x y = x ∙ sym y
-after_read_one Done s keys a b x y = reconciled_one s keys a b x y
+after_read_one (Err r) s keys a b x y = x ∙ sym y
+after_read_one (Ok _) s keys a b x y = reconciled_one s keys a b x y
 
 says_one : (form : Form) (a b : List ℕ) → Says form a → Says form b → a ≡ b
 says_one too_long a b x y = x ∙ sym y

@@ -8,7 +8,7 @@
 --   written_one            that of write gives the answer, the length and the lent buffer afterwards: one outcome
 --
 -- Assumes nothing.
-use Rattle.std.specs.Prelude.{◌≡◌, refl, List, ◌++◌, ℕ, length, drop}
+use Rattle.std.specs.Prelude.{◌≡◌, refl, List, ◌++◌, ℕ, length, drop, Ok, Err}
 use Rattle.std.proofs.Common.{sym, ap, ◌∙◌, inl, inr}
 use Rattle.rules.specs.Numbers.{samples, Keys}
 use Rattle.rules.specs.Plans.{samples_most}
@@ -18,8 +18,7 @@ use Rattle.rules.specs.Reconciling.{DifferenceOf, Left, Refuses, Finds, After, R
 use Rattle.rules.specs.declared.Sketch.{Sketch}
 use Rattle.rules.specs.declared.Sketched.{Sketched}
 use Rattle.rules.specs.declared.Refusal.{Refusal}
-use Rattle.rules.specs.declared.Answer.{Answer}
-use Rattle.rules.specs.declared.Answer.TheVariants.{Done, Refused}
+use Rattle.rules.specs.Refusals.{Answer}
 use Rattle.message.specs.declared.Written.{Written}
 use Rattle.search.specs.InField.{one_difference}
 use Rattle.reconcile.specs.Passing.{Passing, passing}
@@ -48,15 +47,15 @@ pub reconcile_one : (s : Sketch) (home theirs ours : List ℕ) (a b : Left) → 
 unfolding Reconciles
 reconcile_one s home theirs ours a b = go (reconcile_tests s home (length theirs) (length ours)) refl
   where
-    found : Passing s home (length theirs) (length ours) → After Done s home theirs ours a → After Done s home theirs ours b → a ≡ b
+    found : Passing s home (length theirs) (length ours) → After (Ok tt) s home theirs ours a → After (Ok tt) s home theirs ours b → a ≡ b
     found p (inl x) (inl y) = finds_one s home theirs ours a b p.whole p.listed.keys x y
     found p (inl x) (inr y) = absurd (y.0 x.new x.held x.difference)
     found p (inr x) (inl y) = absurd (x.0 y.new y.held y.difference)
     found p (inr x) (inr y) = refuses_one _ theirs ours a b x.1 y.1
 
     go : (t : Answer) → reconcile_tests s home (length theirs) (length ours) ≡ t → After t s home theirs ours a → After t s home theirs ours b → a ≡ b
-    go (Refused r) e x y = refuses_one r theirs ours a b x y
-    go Done e x y = found (passing s home (length theirs) (length ours) e) x y
+    go (Err r) e x y = refuses_one r theirs ours a b x y
+    go (Ok _) e x y = found (passing s home (length theirs) (length ours) e) x y
 
 pub sketched_one : (answer : Answer) (sketch : Sketch) (a b : Sketched) → (a.answer ≡ answer) × (a.sketch ≡ sketch) → (b.answer ≡ answer) × (b.sketch ≡ sketch) → a ≡ b
 sketched_one answer sketch a b x y = λ i. record { answer = (x.0 ∙ sym y.0) i; sketch = (x.1 ∙ sym y.1) i }

@@ -16,33 +16,33 @@ use Rattle.rules.specs.Calls.{list_answer, reconcile_tests}
 use Rattle.rules.specs.declared.Sketch.{Sketch}
 use Rattle.rules.specs.declared.Refusal.{Refusal}
 use Rattle.rules.specs.declared.Refusal.TheVariants.{MalformedSketch, ShortBuffer, LargeGap}
-use Rattle.rules.specs.declared.Answer.TheVariants.{Done, Refused}
+use Rattle.std.specs.Prelude.{Ok, Err}
 
 module _ (s : Sketch) (home : List ℕ) (theirs ours : ℕ) where
-  pub malformed : well_formed s ≡ false → Refused MalformedSketch ≡ reconcile_tests s home theirs ours
+  pub malformed : well_formed s ≡ false → Err MalformedSketch ≡ reconcile_tests s home theirs ours
   unfolding reconcile_tests
   malformed w = rw w
 
   module _ (w : well_formed s ≡ true) where
-    pub bad_list : (r : Refusal) → list_answer home ≡ Refused r → Refused r ≡ reconcile_tests s home theirs ours
+    pub bad_list : (r : Refusal) → list_answer home ≡ Err r → Err r ≡ reconcile_tests s home theirs ours
     unfolding reconcile_tests
     bad_list r l = rw (w, l)
 
-    module _ (l : list_answer home ≡ Done) where
-      pub short_theirs : ltb theirs (samples s.plan) ≡ true → Refused (ShortBuffer 0) ≡ reconcile_tests s home theirs ours
+    module _ (l : list_answer home ≡ Ok tt) where
+      pub short_theirs : ltb theirs (samples s.plan) ≡ true → Err (ShortBuffer 0) ≡ reconcile_tests s home theirs ours
       unfolding reconcile_tests
       short_theirs t = rw (w, l, t)
 
       module _ (t : ltb theirs (samples s.plan) ≡ false) where
-        pub short_ours : ltb ours (samples s.plan) ≡ true → Refused (ShortBuffer 1) ≡ reconcile_tests s home theirs ours
+        pub short_ours : ltb ours (samples s.plan) ≡ true → Err (ShortBuffer 1) ≡ reconcile_tests s home theirs ours
         unfolding reconcile_tests
         short_ours o = rw (w, l, t, o)
 
         module _ (o : ltb ours (samples s.plan) ≡ false) where
-          pub large_gap : (outside (samples s.plan) (gap_of s.size home)) ≡ true → Refused LargeGap ≡ reconcile_tests s home theirs ours
+          pub large_gap : (outside (samples s.plan) (gap_of s.size home)) ≡ true → Err LargeGap ≡ reconcile_tests s home theirs ours
           unfolding reconcile_tests
           large_gap g = rw (w, l, t, o, g)
 
-          pub passed : (outside (samples s.plan) (gap_of s.size home)) ≡ false → Done ≡ reconcile_tests s home theirs ours
+          pub passed : (outside (samples s.plan) (gap_of s.size home)) ≡ false → (Ok tt) ≡ reconcile_tests s home theirs ours
           unfolding reconcile_tests
           passed g = rw (w, l, t, o, g)

@@ -8,8 +8,7 @@
 --   something          it finds one, and the lists fill the fronts of the buffers
 --
 -- Assumes nothing.
-use mathlib.Core.Path.{◌≡◌, refl, sym, subst, ◌∙◌}
-use mathlib.Core.Bool.{Bool, true, false}
+use mathlib.Core.Path.{◌≡◌, refl, sym, subst}
 use mathlib.Core.Logic.{inl, inr}
 use mathlib.Core.List.{List, ◌++◌}
 use Prim.Native.Nat.{ℕ, ◌+◌, ◌≤◌}
@@ -19,12 +18,13 @@ use lib.Seq.{length-take-le}
 use Rattle.rules.specs.Numbers.{most_samples, list_limit, samples, LegalList}
 use Rattle.rules.specs.Plans.{samples_most}
 use Rattle.rules.specs.Calls.{reconcile_tests}
+use Rattle.rules.specs.Differences.{Difference}
 use Rattle.rules.specs.Reconciling.{Left, After, Reconciles}
 use Rattle.rules.specs.declared.Sketch.{Sketch}
 use Rattle.rules.specs.declared.Refusal.{Refusal}
 use Rattle.rules.specs.declared.Refusal.TheVariants.{NoDifference}
-use Rattle.rules.specs.declared.Answer.{Answer}
-use Rattle.rules.specs.declared.Answer.TheVariants.{Done, Refused}
+use Rattle.rules.specs.Refusals.{Answer}
+use Rattle.std.specs.Prelude.{Ok, Err, None}
 use Rattle.search.specs.InField.{Good}
 use Rattle.reconcile.specs.Passing.{Passing}
 use Rattle.search.specs.Search.{Found, Searched}
@@ -53,40 +53,35 @@ module _ (s : Sketch) (home theirs ours : List ℕ) where
   abbrev left : Answer → ℕ → ℕ → List ℕ → List ℕ → Left
   left a t o theirs' ours' = record { answer = a; theirs_count = t; ours_count = o; theirs = theirs'; ours = ours' }
 
-  pub refused : (a : Answer) (r : Refusal) → a ≡ Refused r → a ≡ reconcile_tests s home (length theirs) (length ours) → Reconciles s home theirs ours (left a 0 0 theirs ours)
+  pub refused : (r : Refusal) → Err r ≡ reconcile_tests s home (length theirs) (length ours) → Reconciles s home theirs ours (left (Err r) 0 0 theirs ours)
   unfolding Reconciles
-  refused a r e t = subst (λ x. After x s home theirs ours (left a 0 0 theirs ours)) (sym e ∙ t) (record { answer = e; theirs_none = refl; ours_none = refl; theirs_stay = refl; ours_stay = refl })
+  refused r t = subst (λ x. After x s home theirs ours (left (Err r) 0 0 theirs ours)) t (record { answer = refl; theirs_none = refl; ours_none = refl; theirs_stay = refl; ours_stay = refl })
 
-  module _ (passed : Done ≡ reconcile_tests s home (length theirs) (length ours)) (m : ℕ) (same : m ≡ samples s.plan) (new held : List ℕ) (t o : ℕ) (r : Bool)
-      (searched : Searched m s.size s.values home new held r t o) where
-    pub nothing : r ≡ false → Reconciles s home theirs ours (left (Refused NoDifference) 0 0 theirs ours)
+  module _ (passed : (Ok tt) ≡ reconcile_tests s home (length theirs) (length ours)) (m : ℕ) (same : m ≡ samples s.plan) (new held : List ℕ) where
+    pub nothing : Searched m s.size s.values home new held None → Reconciles s home theirs ours (left (Err NoDifference) 0 0 theirs ours)
     unfolding Reconciles
-    nothing e = subst (λ x. After x s home theirs ours (left (Refused NoDifference) 0 0 theirs ours)) passed
+    nothing none = subst (λ x. After x s home theirs ours (left (Err NoDifference) 0 0 theirs ours)) passed
         (inr (
-          subst (λ k. Searched k s.size s.values home new held false t o) same (subst (λ b. Searched m s.size s.values home new held b t o) e searched),
+          subst (λ k. Searched k s.size s.values home new held None) same none,
           record { answer = refl; theirs_none = refl; ours_none = refl; theirs_stay = refl; ours_stay = refl },
         ))
 
-    found : r ≡ true → Found (samples s.plan) s.size s.values home new held t o
-    found e = subst (λ k. Searched k s.size s.values home new held true t o) same (subst (λ b. Searched m s.size s.values home new held b t o) e searched)
+    module _ (t o : ℕ) (found : Found m s.size s.values home new held t o) where
+      -- the counts are within the room that the tests ask for
+      pub something_rooms : (t ≤ length new) × (o ≤ length held) × (t + o ≤ samples s.plan)
+      something_rooms = (found.theirs_room, found.ours_room, omega (arith, found.difference.bound, length-take-le t new found.theirs_room, length-take-le o held found.ours_room))
 
-    -- the counts are within the room that the tests ask for
-    pub something_rooms : r ≡ true → (t ≤ length new) × (o ≤ length held) × (t + o ≤ samples s.plan)
-    something_rooms e =
-        let f = found e in
-        (f.theirs_room, f.ours_room, omega (arith, f.difference.bound, length-take-le t new f.theirs_room, length-take-le o held f.ours_room))
-
-    pub something : r ≡ true → (theirs' ours' : List ℕ) → theirs' ≡ take t new ++ drop (length (take t new)) theirs → ours' ≡ take o held ++ drop (length (take o held)) ours
-        → Reconciles s home theirs ours (left Done t o theirs' ours')
-    unfolding Reconciles
-    something e theirs' ours' u w = subst (λ x. After x s home theirs ours (left Done t o theirs' ours')) passed
-        (inl (record {
-          new = take t new;
-          held = take o held;
-          difference = (found e).difference;
-          answer = refl;
-          theirs_count = sym (length-take-le t new (found e).theirs_room);
-          ours_count = sym (length-take-le o held (found e).ours_room);
-          theirs_filled = u;
-          ours_filled = w;
-        }))
+      pub something : (theirs' ours' : List ℕ) → theirs' ≡ take t new ++ drop (length (take t new)) theirs → ours' ≡ take o held ++ drop (length (take o held)) ours
+          → Reconciles s home theirs ours (left (Ok tt) t o theirs' ours')
+      unfolding Reconciles
+      something theirs' ours' u w = subst (λ x. After x s home theirs ours (left (Ok tt) t o theirs' ours')) passed
+          (inl (record {
+            new = take t new;
+            held = take o held;
+            difference = subst (λ k. Difference k s.size s.values home (take t new) (take o held)) same found.difference;
+            answer = refl;
+            theirs_count = sym (length-take-le t new found.theirs_room);
+            ours_count = sym (length-take-le o held found.ours_room);
+            theirs_filled = u;
+            ours_filled = w;
+          }))

@@ -4,7 +4,7 @@
 --                              them afterwards; and every place has 24 bits
 --
 -- Assumes nothing.
-use Rattle.std.specs.Prelude.{◌≡◌, List, ℕ, ◌≤◌, length, drop}
+use Rattle.std.specs.Prelude.{◌≡◌, List, ℕ, ◌≤◌, length, drop, Ok, Err}
 use Rattle.std.proofs.Math.Path.{refl}
 use Rattle.std.proofs.Common.{sym, ap, subst, ◌∙◌, inl, inr, arith, lit<, length-append}
 use Rattle.rules.specs.Numbers.{most_samples}
@@ -15,8 +15,7 @@ use Rattle.rules.specs.Packed.{SmallPlace, small_reconcile}
 use Rattle.rules.specs.declared.Sketch.{Sketch}
 use Rattle.rules.specs.declared.Refusal.{Refusal}
 use Rattle.rules.specs.declared.Refusal.TheVariants.{NoDifference}
-use Rattle.rules.specs.declared.Answer.{Answer}
-use Rattle.rules.specs.declared.Answer.TheVariants.{Done, Refused}
+use Rattle.rules.specs.Refusals.{Answer}
 use Rattle.reconcile.specs.Passing.{Passing, passing}
 
 pub record Bounds (t o : List ℕ) (left : Left) : Type 0 where
@@ -29,7 +28,7 @@ pub record Bounds (t o : List ℕ) (left : Left) : Type 0 where
   pub small : SmallPlace left.answer
 
 module _ (s : Sketch) (h t o : List ℕ) where
-  refused_bounds : (r : Refusal) (left : Left) → SmallPlace (Refused r) → Refuses r t o left → Bounds t o left
+  refused_bounds : (r : Refusal) (left : Left) → SmallPlace (Err r) → Refuses r t o left → Bounds t o left
   refused_bounds r left p x =
       let a = x.theirs_none in
       let b = x.ours_none in
@@ -52,6 +51,6 @@ module _ (s : Sketch) (h t o : List ℕ) where
   bounds left = go (reconcile_tests s h (length t) (length o)) refl
     where
       go : (a : Answer) → reconcile_tests s h (length t) (length o) ≡ a → After a s h t o left → Bounds t o left
-      go (Refused r) e x = refused_bounds r left (subst SmallPlace e (small_reconcile s h (length t) (length o))) x
-      go Done e (inl x) = found_bounds left (passing s h (length t) (length o) e) x
-      go Done e (inr x) = refused_bounds NoDifference left (lit< tt) x.1
+      go (Err r) e x = refused_bounds r left (subst SmallPlace e (small_reconcile s h (length t) (length o))) x
+      go (Ok _) e (inl x) = found_bounds left (passing s h (length t) (length o) e) x
+      go (Ok _) e (inr x) = refused_bounds NoDifference left (lit< tt) x.1

@@ -4,7 +4,7 @@
 --   passes_tests                   and the other way round
 --
 -- Assumes nothing.
-use Rattle.std.specs.Prelude.{◌≡◌, Bool, List, ℕ, ◌+◌, ◌≤◌, ltb, pos, neg_ℤ, length}
+use Rattle.std.specs.Prelude.{◌≡◌, Bool, List, ℕ, ◌+◌, ◌≤◌, ltb, pos, neg_ℤ, length, Ok}
 use Rattle.std.proofs.Common.{sym, ap, ◌∙◌}
 use Rattle.std.proofs.Math.Bool.{not}
 use borrow.Author.Tests.{ltb-false, le-ltb, not-false}
@@ -14,13 +14,11 @@ use Rattle.rules.specs.Sketches.{WellFormed, well_formed}
 use Rattle.rules.specs.Formed.{formed, tested}
 use Rattle.rules.specs.Legal.{legal, passes}
 use Rattle.rules.specs.Differences.{gap_of, outside}
-use Rattle.rules.specs.Refusals.{when, ◌then◌}
+use Rattle.rules.specs.Refusals.{when, ◌then◌, Answer}
 use Rattle.rules.specs.Calls.{list_answer, reconcile_tests}
 use Rattle.rules.specs.Tests.{when_done, then_done, done_when, done_then, or_false, false_or}
 use Rattle.rules.specs.declared.Sketch.{Sketch}
 use Rattle.rules.specs.declared.Refusal.TheVariants.{MalformedSketch, ShortBuffer, LargeGap}
-use Rattle.rules.specs.declared.Answer.{Answer}
-use Rattle.rules.specs.declared.Answer.TheVariants.{Done}
 use Rattle.gap.specs.Gap.{below_test, above_test}
 
 pub record Passing (s : Sketch) (home : List ℕ) (theirs ours : ℕ) : Type 0 where
@@ -51,7 +49,7 @@ module _ (s : Sketch) (home : List ℕ) (theirs ours : ℕ) where
   abbrev from_list : Answer
   from_list = list_answer home then from_theirs
 
-  pub passing : reconcile_tests s home theirs ours ≡ Done → Passing s home theirs ours
+  pub passing : reconcile_tests s home theirs ours ≡ Ok tt → Passing s home theirs ours
   unfolding reconcile_tests
   passing e =
       let a = then_done (when (not (well_formed s)) MalformedSketch) from_list e in
@@ -68,7 +66,7 @@ module _ (s : Sketch) (home : List ℕ) (theirs ours : ℕ) where
         high = ltb-false (length home + m) s.size (sym (above_test s.size (length home) m) ∙ g.1);
       }
 
-  pub passes_tests : Passing s home theirs ours → reconcile_tests s home theirs ours ≡ Done
+  pub passes_tests : Passing s home theirs ours → reconcile_tests s home theirs ours ≡ Ok tt
   unfolding reconcile_tests
   passes_tests p =
       done_then (when (not (well_formed s)) MalformedSketch) from_list (done_when (not (well_formed s)) MalformedSketch (ap not (tested s p.whole)))

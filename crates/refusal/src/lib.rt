@@ -11,24 +11,22 @@ pub fn number(answer: Answer) -> u32
     ensures { result ≡ number_of answer }
 {
     match answer {
-        Answer::Done => 0,
-        Answer::Refused(refusal) => match refusal {
-            Refusal::UnknownPlan => 1,
-            Refusal::LongList => 2,
-            Refusal::LargeKey(_) => 3,
-            Refusal::UnorderedKey(_) => 4,
-            Refusal::ShortBuffer(_) => 5,
-            Refusal::MalformedSketch => 6,
-            Refusal::WrongLength => 7,
-            Refusal::UnknownVersion => 8,
-            Refusal::LargeSize => 9,
-            Refusal::BadValue(_) => 10,
-            Refusal::PaddingSet => 11,
-            Refusal::LargeGap => 12,
-            Refusal::NoDifference => 13,
-            Refusal::FullSketch => 14,
-            Refusal::EmptySketch => 15,
-        },
+        Ok(()) => 0,
+        Err(Refusal::UnknownPlan) => 1,
+        Err(Refusal::LongList) => 2,
+        Err(Refusal::LargeKey(_)) => 3,
+        Err(Refusal::UnorderedKey(_)) => 4,
+        Err(Refusal::ShortBuffer(_)) => 5,
+        Err(Refusal::MalformedSketch) => 6,
+        Err(Refusal::WrongLength) => 7,
+        Err(Refusal::UnknownVersion) => 8,
+        Err(Refusal::LargeSize) => 9,
+        Err(Refusal::BadValue(_)) => 10,
+        Err(Refusal::PaddingSet) => 11,
+        Err(Refusal::LargeGap) => 12,
+        Err(Refusal::NoDifference) => 13,
+        Err(Refusal::FullSketch) => 14,
+        Err(Refusal::EmptySketch) => 15,
     }
 }
 
@@ -37,23 +35,9 @@ pub fn place(answer: Answer) -> u32
     ensures { result ≡ place_of answer }
 {
     match answer {
-        Answer::Done => 0,
-        Answer::Refused(refusal) => match refusal {
-            Refusal::UnknownPlan => 0,
-            Refusal::LongList => 0,
-            Refusal::LargeKey(index) => index,
-            Refusal::UnorderedKey(index) => index,
-            Refusal::ShortBuffer(position) => position,
-            Refusal::MalformedSketch => 0,
-            Refusal::WrongLength => 0,
-            Refusal::UnknownVersion => 0,
-            Refusal::LargeSize => 0,
-            Refusal::BadValue(sample) => sample,
-            Refusal::PaddingSet => 0,
-            Refusal::LargeGap => 0,
-            Refusal::NoDifference => 0,
-            Refusal::FullSketch => 0,
-            Refusal::EmptySketch => 0,
-        },
+        Err(Refusal::LargeKey(index) | Refusal::UnorderedKey(index)) => index,
+        Err(Refusal::ShortBuffer(position)) => position,
+        Err(Refusal::BadValue(sample)) => sample,
+        _ => 0,
     }
 }

@@ -18,17 +18,17 @@ use Rattle.rules.specs.Calls.{reconcile_tests}
 use Rattle.rules.specs.Reconciling.{Left, After, Reconciles}
 use Rattle.rules.specs.Report.{bad_line, whole, ended}
 use Rattle.rules.specs.declared.Sketch.{Sketch}
-use Rattle.rules.specs.declared.Answer.{Answer}
-use Rattle.rules.specs.declared.Answer.TheVariants.{Done, Refused}
+use Rattle.rules.specs.Refusals.{Answer}
+use Rattle.std.specs.Prelude.{Ok, Err}
 
-pub few_found : (s : Sketch) (home theirs ours : List ℕ) (left : Left) → Reconciles s home theirs ours left → left.answer ≡ Done → left.theirs_count + left.ours_count ≤ most_samples
+pub few_found : (s : Sketch) (home theirs ours : List ℕ) (left : Left) → Reconciles s home theirs ours left → left.answer ≡ Ok tt → left.theirs_count + left.ours_count ≤ most_samples
 unfolding Reconciles
 few_found s home theirs ours left = go (reconcile_tests s home (length theirs) (length ours))
   where
-    go : (t : Answer) → After t s home theirs ours left → left.answer ≡ Done → left.theirs_count + left.ours_count ≤ most_samples
-    go (Refused r) x e = absurd (refused_not_done r (sym x.answer ∙ e))
-    go Done (inl x) e = let m = samples_most s.plan in omega (arith, x.difference.bound, x.theirs_count, x.ours_count)
-    go Done (inr x) e = absurd (refused_not_done _ (sym x.1.answer ∙ e))
+    go : (t : Answer) → After t s home theirs ours left → left.answer ≡ Ok tt → left.theirs_count + left.ours_count ≤ most_samples
+    go (Err r) x e = absurd (refused_not_done r (sym x.answer ∙ e))
+    go (Ok _) (inl x) e = let m = samples_most s.plan in omega (arith, x.difference.bound, x.theirs_count, x.ours_count)
+    go (Ok _) (inr x) e = absurd (refused_not_done _ (sym x.1.answer ∙ e))
 
 pub nothing_behind : (keys message rest : List ℕ) (n : ℕ) → length rest ≤ n → ended keys message (drop n rest) ≡ whole keys message
 nothing_behind keys message rest n h = ap (ended keys message) (drop_of_length-le rest h)

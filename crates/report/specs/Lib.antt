@@ -1,2 +1,2 @@
--- What the report leaves in its buffer, and what it returns: Answers.
+-- What the report returns: Answers.
 pub mod Answers

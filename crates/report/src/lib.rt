@@ -4,10 +4,10 @@
 ghost use Rattle.std.specs.Prelude.{◌≤◌, length};
 ghost use Rattle.rules.specs.Calls.{read_answer, read_result};
 ghost use Rattle.rules.specs.Report.{input_limit, keys_limit, AfterReconcile, AfterRead, second_line, with_second, Says, Reports};
-ghost use Rattle.report_text.specs.Puts.{text_room};
-ghost use Rattle.report.specs.Answers.{Written, Told};
+ghost use Rattle.report.specs.Answers.{Told};
 
-use rules::{Answer, Sketch};
+use report_text::Lines;
+use rules::Sketch;
 
 // "standard input, at most 60,000 bytes"; "It takes at most 8,192 keys"; a byte of the message takes two of the input.
 pub const INPUT_LIMIT: usize = 60000;
@@ -16,10 +16,10 @@ const KEYS_LIMIT: usize = 8192;
 
 const MESSAGE_LIMIT: usize = INPUT_LIMIT / 2;
 
-// Room for the longest answer: 83 bytes, and 11 for each of at most 64 keys.
-pub const TEXT_ROOM: usize = 1024;
+pub const TEXT_ROOM: usize = report_text::TEXT_ROOM;
 
 // The text to write: the first bytes; the others are 0.
+// Stays a buffer with its length: `Told`, which the report promises, names both and the zeros behind.
 #[derive(Clone, Copy)]
 pub struct Text {
     pub bytes: [u8; TEXT_ROOM],
@@ -27,82 +27,71 @@ pub struct Text {
 }
 
 // The lines for a sketch and the home keys.
-fn put_outcome(out: &mut [u8], s: Sketch, keys: &[u32]) -> usize
-    requires { (text_room ≤ length out.old) × (length keys.now ≤ keys_limit) }
-    ensures { Written (AfterReconcile s keys.now) out.old out.new result }
+fn after_reconcile(s: Sketch, keys: &[u32]) -> Lines
+    requires { length keys.now ≤ keys_limit }
+    ensures { AfterReconcile s keys.now result.items }
 {
     let mut theirs = [0u32; rules::MOST_SAMPLES];
     let mut ours = [0u32; rules::MOST_SAMPLES];
     let left = reconcile::reconcile(s, keys, &mut theirs, &mut ours);
     let answer = left.answer;
-    if let Answer::Refused(_) = answer {
-        return report_text::put_refused(out, answer);
+    if let Err(_) = answer {
+        return report_text::refused(answer);
     }
-    let t = left.theirs;
-    let o = left.ours;
-    report_text::put_found(
-        out,
-        s.plan as u32,
-        s.size,
-        keys.len() as u32,
-        &theirs[..t],
-        &ours[..o],
-    )
+    let theirs = &theirs[..left.theirs];
+    let ours = &ours[..left.ours];
+    report_text::found(u32::from(s.plan), s.size, keys.len() as u32, theirs, ours)
 }
 
 // "Refusals of the read come before those of reconciling."
-fn put_answer(out: &mut [u8], keys: &[u32], message: &[u8]) -> usize
-    requires { (text_room ≤ length out.old) × (length keys.now ≤ keys_limit) }
-    ensures { Written (AfterRead (read_answer message.now) (read_result message.now) keys.now) out.old out.new result }
+fn after_read(keys: &[u32], message: &[u8]) -> Lines
+    requires { length keys.now ≤ keys_limit }
+    ensures { AfterRead (read_answer message.now) (read_result message.now) keys.now result.items }
 {
     let read = message::read(message);
     let answer = read.answer;
-    if let Answer::Refused(_) = answer {
-        return report_text::put_refused(out, answer);
+    if let Err(_) = answer {
+        return report_text::refused(answer);
     }
-    let s = read.sketch;
-    put_outcome(out, s, keys)
+    after_reconcile(read.sketch, keys)
 }
 
 // What stands behind line 1: "nothing follows; a byte after line 2 is `bad line 3`."
-fn put_second(out: &mut [u8], keys: &[u32], rest: &[u8]) -> usize
-    requires { (text_room ≤ length out.old) × (length keys.now ≤ keys_limit) × (length rest.now ≤ input_limit) }
-    ensures { Written (Says (with_second keys.now (second_line rest.now))) out.old out.new result }
+fn after_first(keys: &[u32], rest: &[u8]) -> Lines
+    requires { (length keys.now ≤ keys_limit) × (length rest.now ≤ input_limit) }
+    ensures { Says (with_second keys.now (second_line rest.now)) result.items }
 {
     let mut message = [0u8; MESSAGE_LIMIT];
-    let line = report_input::second_line(rest, &mut message);
-    if !line.good {
-        return report_text::put_bad_line(out, 2);
+    match report_input::second_line(rest, &mut message) {
+        None => report_text::bad_line(2),
+        Some(line) if !line.rest.is_empty() => report_text::bad_line(3),
+        Some(line) => after_read(keys, line.held),
     }
-    if line.next < rest.len() {
-        return report_text::put_bad_line(out, 3);
-    }
-    let n = line.count;
-    put_answer(out, keys, &message[..n])
 }
 
-fn put_report(out: &mut [u8], input: &[u8]) -> usize
-    requires { text_room ≤ length out.old }
-    ensures { Written (Reports input.now) out.old out.new result }
+#[tactic(auto, unfolding(rules::specs::Report::Reports, rules::specs::Report::form_of))]
+fn written(input: &[u8]) -> Lines
+    ensures { Reports input.now result.items }
 {
     if INPUT_LIMIT < input.len() {
-        return report_text::put_text(out, 0, b"too long\n");
+        let mut lines = Lines::new();
+        report_text::put_text(&mut lines, b"too long\n");
+        return lines;
     }
     let mut keys = [0u32; KEYS_LIMIT];
-    let line = report_input::first_line(input, &mut keys);
-    if !line.good {
-        return report_text::put_bad_line(out, 1);
+    match report_input::first_line(input, &mut keys) {
+        None => report_text::bad_line(1),
+        Some(line) => after_first(line.held, line.rest),
     }
-    let n = line.count;
-    let next = line.next;
-    put_second(out, &keys[..n], &input[next..])
 }
 
 // What the program writes for what it reads.
 pub fn report(input: &[u8]) -> Text
     ensures { Told input.now result.bytes result.length }
 {
+    let lines = written(input);
+    let length = lines.len();
     let mut bytes = [0u8; TEXT_ROOM];
-    let length = put_report(&mut bytes, input);
+    bytes[..length].copy_from_slice(lines.as_slice());
     Text { bytes, length }
 }

@@ -5,26 +5,25 @@
 --   fewer                                  a key of fewer than nine digits is below 100,000,000
 --   ended, no_digit, full, stored_newline, stored_other    what ends it
 --
---   none, newline_first, other_first, space_first      what stands behind the word
 --   no_word, word          line 1 without its word, and with it
 --
 -- Assumes nothing.
 use mathlib.Core.Path.{◌≡◌, refl, sym, ap, ap₂, ◌∙◌}
 use mathlib.Core.Bool.{true, false, cond, ◌&&◌}
-use mathlib.Core.List.{List, [], ◌∷◌, ◌++◌, append-nil}
+use mathlib.Core.List.{List, ◌∷◌, ◌++◌, append-nil}
 use Prim.Native.Nat.{ℕ, suc, ◌+◌, ◌*◌, ◌-◌, ◌^◌, ◌≤◌, ◌<◌}
 use native.Mathlib.Nat.{pow-suc, pow-le-pow_right}
 use native.Mathlib.Numerals.{add-one}
 use native.Mathlib.Omega.{arith}
 use borrow.Author.Tests.{eq-eqb, ne_eqb, le-leb, lt-leb, ltb-true}
 use lib.Dec.{ltb, leb, eqb}
-use lib.ListN.{length, get_or, take, drop, set, length-append, length-set, drop_of_length-le}
+use lib.ListN.{length, get_or, take, drop, set, length-append, length-drop, length-set, drop_of_length-le}
 use lib.Seq.{drop-cons, length-take-le}
 use Rattle.algebra.specs.Prefix.{take_set_next}
 use Rattle.rules.specs.Tests.{and_true}
 use Rattle.rules.specs.Report as report
 use Rattle.rules.specs.Report.{Line, good, bad, newline, space, digits_limit, keys_limit, is_digit, keys_from, keys_line, limited, begins, text, first_line}
-use Rattle.report_input.specs.Lines.{Reads}
+use Rattle.report_input.specs.Lines.{Holds}
 use Rattle.rules.specs.Tests.{pick_true, pick_false}
 use Rattle.report_input.proofs.Tests.{digit_range}
 use Rattle.report_input.proofs.Ahead.{ahead, ahead_none, ahead_first}
@@ -93,17 +92,17 @@ module _ (line keys : List ℕ) (i n digits key b : ℕ) (r : KeysRead line keys
               key_ends ∙ ahead_first (take n keys) key (report.behind b rest (keys_from 0 0 rest))
               ∙ ap (λ (l : List ℕ). ahead l (report.behind b rest (keys_from 0 0 rest))) (sym (take_set_next keys n key (omega (arith, r.room))))
 
-          pub stored_newline : b ≡ newline → Reads (limited (keys_from 0 0 line)) line (set keys n key) true (n + 1) (i + 1)
+          pub stored_newline : b ≡ newline → Holds (limited (keys_from 0 0 line)) line keys_limit (take (n + 1) (set keys n key)) rest
           stored_newline e =
               let l = length-set keys n key in
               let all = length-take-le (n + 1) (set keys n key) (omega (arith, r.room)) in
+              let behind = length-drop (i + 1) line in
               record {
-                held = λ _.
+                is =
                     ap limited (stored ∙ ap (ahead (take (n + 1) (set keys n key))) (pick_true _ _ _ (eq-eqb b newline e)) ∙ ap (λ (k : List ℕ). good k rest) (append-nil (take (n + 1) (set keys n key))))
                     ∙ pick_true (leb (length (take (n + 1) (set keys n key))) keys_limit) (good (take (n + 1) (set keys n key)) rest) bad (le-leb (length (take (n + 1) (set keys n key))) keys_limit (omega arith));
-                bad = λ f. absurd (let z : ◌≡◌ {A = ℕ} 0 1 = cc in omega arith);
-                count_within = omega (arith, r.room);
-                next_within = omega arith;
+                within = omega arith;
+                behind = omega arith;
               }
 
           module _ (more : b ≡ newline → ⊥) where
@@ -120,34 +119,6 @@ module _ (line keys : List ℕ) (i n digits key b : ℕ) (r : KeysRead line keys
                   small = omega arith;
                   so_far = stored ∙ ap (ahead (take (n + 1) (set keys n key))) (pick_false _ _ _ (ne_eqb b newline more) ∙ pick_true _ _ _ (eq-eqb b space e));
                 }
-
-pub none : (line : List ℕ) → length line ≡ 0 → limited (keys_line line) ≡ bad
-none [] e = refl
-none (b ∷ line) e = absurd (omega arith)
-
-module _ (line : List ℕ) (some : length line ≡ 0 → ⊥) where
-  first_byte : keys_line line ≡ report.behind (get_or line 0 0) (drop 1 line) (keys_from 0 0 (drop 1 line))
-  first_byte = go line some
-    where
-      go : (l : List ℕ) → (length l ≡ 0 → ⊥) → keys_line l ≡ report.behind (get_or l 0 0) (drop 1 l) (keys_from 0 0 (drop 1 l))
-      go [] s = absurd (s refl)
-      go (b ∷ l) s = refl
-
-  pub newline_first : (buffer : List ℕ) → get_or line 0 0 ≡ newline → Reads (limited (keys_line line)) line buffer true 0 1
-  newline_first buffer e =
-      record {
-        held = λ _. ap limited (first_byte ∙ pick_true _ _ _ (eq-eqb (get_or line 0 0) newline e));
-        bad = λ f. absurd (let z : ◌≡◌ {A = ℕ} 0 1 = cc in omega arith);
-        count_within = omega arith;
-        next_within = omega arith;
-      }
-
-  module _ (more : get_or line 0 0 ≡ newline → ⊥) where
-    pub other_first : (get_or line 0 0 ≡ space → ⊥) → limited (keys_line line) ≡ bad
-    other_first o = ap limited (first_byte ∙ pick_false _ _ _ (ne_eqb (get_or line 0 0) newline more) ∙ pick_false _ _ _ (ne_eqb (get_or line 0 0) space o))
-
-    pub space_first : get_or line 0 0 ≡ space → limited (keys_line line) ≡ limited (keys_from 0 0 (drop 1 line))
-    space_first e = ap limited (first_byte ∙ pick_false _ _ _ (ne_eqb (get_or line 0 0) newline more) ∙ pick_true _ _ _ (eq-eqb (get_or line 0 0) space e))
 
 pub no_word : (input : List ℕ) → begins (text "have") input ≡ false → first_line input ≡ bad
 unfolding first_line

@@ -1,14 +1,17 @@
 -- What reading a line of the report gives.
 --
---   Reads line input buffer good count next    `line` is what the input begins with: where it is good, the first `count` entries
---                                              of the buffer are what it holds and the bytes from `next` on stand behind it
+--   Reads line input room read     `line` is what the input begins with: nothing is read where it is bad, and else it Holds what is read
+--   Holds line input room held rest    the line holds `held`, for which there was room, and of the input `rest` stands behind it
 --
 -- Assumes nothing.
-use Rattle.std.specs.Prelude.{◌≡◌, Bool, true, false, List, ℕ, ◌≤◌, length, take, drop}
+use Rattle.std.specs.Prelude.{◌≡◌, List, ℕ, ◌≤◌, length, Option, MatchOption}
 use Rattle.rules.specs.Report as report
+use Rattle.report_input.specs.declared.Line.{Line}
 
-pub record Reads (line : report.Line) (input buffer : List ℕ) (good : Bool) (count next : ℕ) : Type 0 where
-  pub held : good ≡ true → line ≡ report.good (take count buffer) (drop next input)
-  pub bad : good ≡ false → line ≡ report.bad
-  pub count_within : count ≤ length buffer
-  pub next_within : next ≤ length input
+pub record Holds (line : report.Line) (input : List ℕ) (room : ℕ) (held rest : List ℕ) : Type 0 where
+  pub is : line ≡ report.good held rest
+  pub within : length held ≤ room
+  pub behind : length rest ≤ length input
+
+abbrev pub Reads : report.Line → List ℕ → ℕ → Option (Line ℕ) → Type 0
+Reads line input room read = MatchOption read (line ≡ report.bad) (λ l. Holds line input room l.held.now l.rest.now)

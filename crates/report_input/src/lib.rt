@@ -1,8 +1,8 @@
 // The two lines that the night report reads.
 #![tactic(auto)]
 
-ghost use Rattle.std.specs.Prelude.{◌≡◌, true, false, ◌&&◌, ◌+◌, ◌*◌, ◌^◌, ◌≤◌, ◌<◌, ltb, length};
-ghost use Rattle.rules.specs.Report.{begins, is_digit, digits_limit, keys_limit, keys_from, keys_line, limited, is_hex, hex_value, bytes_line, first_line, second_line};
+ghost use Rattle.std.specs.Prelude.{◌≡◌, true, false, ◌&&◌, ◌*◌, ◌≤◌, ◌<◌, ltb, length, MatchOption};
+ghost use Rattle.rules.specs.Report.{is_digit, digits_limit, keys_limit, keys_from, keys_line, limited, is_hex, hex_value, bytes_line, first_line, second_line};
 ghost use Rattle.report_input.specs.Lines.{Reads};
 
 const NEWLINE: u8 = b'\n';
@@ -11,199 +11,107 @@ const SPACE: u8 = b' ';
 
 const DIGITS: u32 = 9;
 
-// A line that was read: how many numbers it holds, and where the bytes behind it begin; both 0 where it is bad.
+// A line that was read: what it holds, which stands in the buffer that was lent for it, and the bytes behind it.
 #[derive(Clone, Copy)]
-pub struct Line {
-    pub good: bool,
-    pub count: usize,
-    pub next: usize,
+pub struct Line<'a, T> {
+    pub held: &'a [T],
+    pub rest: &'a [u8],
 }
 
-// Whether a text begins with a word.
-fn starts_with(input: &[u8], word: &[u8]) -> bool
-    ensures { result ≡ begins word.now input.now }
+// What a hex digit is worth.
+fn hex_value(b: u8) -> Option<u8>
+    ensures { MatchOption result (is_hex b ≡ false) (λ v. (is_hex b ≡ true) × (v ≡ hex_value b) × (v < 16)) }
 {
-    let mut i = 0;
-    while i < word.len() {
-        if input.len() <= i {
-            return false;
-        }
-        if word[i] != input[i] {
-            return false;
-        }
-        i += 1;
+    match b {
+        b'0'..=b'9' => Some(b - b'0'),
+        b'a'..=b'f' => Some(b - b'a' + 10),
+        _ => None,
     }
-    true
-}
-
-fn is_digit(b: u8) -> bool
-    ensures { result ≡ is_digit b }
-{
-    if b'0' <= b { b <= b'9' } else { false }
 }
 
 // Whether a byte is one more digit of a key that has so many.
 fn one_more(b: u8, digits: u32) -> bool
     ensures { result ≡ (is_digit b && ltb digits digits_limit) }
 {
-    if is_digit(b) { digits < DIGITS } else { false }
-}
-
-fn is_hex(b: u8) -> bool
-    ensures { result ≡ is_hex b }
-{
-    if is_digit(b) {
-        true
-    } else if b'a' <= b {
-        b <= b'f'
-    } else {
-        false
-    }
-}
-
-fn hex_value(b: u8) -> u8
-    requires { is_hex b ≡ true }
-    ensures { (result ≡ hex_value b) × (result < 16) }
-{
-    if is_digit(b) { b - b'0' } else { b - 87 }
-}
-
-fn bad() -> Line
-    ensures { (result.good ≡ false) × (result.count ≡ 0) × (result.next ≡ 0) }
-{
-    Line {
-        good: false,
-        count: 0,
-        next: 0,
-    }
-}
-
-// The same line, where so many bytes stand before it.
-fn behind(line: Line, before: usize) -> Line
-    requires { line.next + before < 2 ^ 64 }
-    ensures { (result.good ≡ line.good) × (result.count ≡ line.count) × (result.next ≡ line.next + before) }
-{
-    Line {
-        good: line.good,
-        count: line.count,
-        next: line.next + before,
-    }
+    b.is_ascii_digit() && digits < DIGITS
 }
 
 // The keys behind a space: the line begins with the digits of the first.
-fn keys_from(line: &[u8], keys: &mut [u32]) -> Line
+fn keys_from<'a>(line: &'a [u8], keys: &'a mut [u32]) -> Option<Line<'a, u32>>
     requires { length keys.old ≡ keys_limit }
-    ensures { Reads (limited (keys_from 0 0 line.now)) line.now keys.new result.good result.count result.next }
+    ensures { Reads (limited (keys_from 0 0 line.now)) line.now keys_limit result }
 {
-    let mut i = 0;
     let mut n = 0;
-    let mut digits: u32 = 0;
-    let mut key: u32 = 0;
-    while i < line.len() {
-        let b = line[i];
-        i += 1;
+    let mut digits = 0;
+    let mut key = 0;
+    for (i, &b) in line.iter().enumerate() {
         if one_more(b, digits) {
-            key = key * 10 + (b - b'0') as u32;
+            key = key * 10 + u32::from(b - b'0');
             digits += 1;
             continue;
         }
-        if digits == 0 {
-            return bad();
-        }
-        if n == keys.len() {
-            return bad();
+        if digits == 0 || n == keys.len() {
+            return None;
         }
         keys[n] = key;
         n += 1;
         if b == NEWLINE {
-            return Line {
-                good: true,
-                count: n,
-                next: i,
-            };
+            return Some(Line {
+                held: &keys[..n],
+                rest: &line[i + 1..],
+            });
         }
         if b != SPACE {
-            return bad();
+            return None;
         }
         digits = 0;
         key = 0;
     }
-    bad()
+    None
 }
 
 // What stands behind `have`: the end of the line, or a space and the keys.
-fn keys_line(line: &[u8], keys: &mut [u32]) -> Line
+fn keys_line<'a>(line: &'a [u8], keys: &'a mut [u32]) -> Option<Line<'a, u32>>
     requires { length keys.old ≡ keys_limit }
-    ensures { Reads (limited (keys_line line.now)) line.now keys.new result.good result.count result.next }
+    ensures { Reads (limited (keys_line line.now)) line.now keys_limit result }
 {
-    if line.len() == 0 {
-        return bad();
+    match line {
+        [NEWLINE, rest @ ..] => Some(Line { held: &[], rest }),
+        [SPACE, rest @ ..] => keys_from(rest, keys),
+        _ => None,
     }
-    let b = line[0];
-    if b == NEWLINE {
-        return Line {
-            good: true,
-            count: 0,
-            next: 1,
-        };
-    }
-    if b != SPACE {
-        return bad();
-    }
-    behind(keys_from(&line[1..], keys), 1)
 }
 
 // "Line 1 is `have`, then each key of 1 to 9 digits after one space; there may be none."
-pub fn first_line(input: &[u8], keys: &mut [u32]) -> Line
+pub fn first_line<'a>(input: &'a [u8], keys: &'a mut [u32]) -> Option<Line<'a, u32>>
     requires { length keys.old ≡ keys_limit }
-    ensures { Reads (first_line input.now) input.now keys.new result.good result.count result.next }
+    ensures { Reads (first_line input.now) input.now keys_limit result }
 {
-    if !starts_with(input, b"have") {
-        return bad();
-    }
-    behind(keys_line(&input[4..], keys), 4)
+    keys_line(input.strip_prefix(b"have")?, keys)
 }
 
 // Pairs of hex digits up to the end of the line.
-fn bytes_line(line: &[u8], bytes: &mut [u8]) -> Line
+fn bytes_line<'a>(line: &'a [u8], bytes: &'a mut [u8]) -> Option<Line<'a, u8>>
     requires { length line.now ≤ 2 * length bytes.old }
-    ensures { Reads (bytes_line line.now) line.now bytes.new result.good result.count result.next }
+    ensures { Reads (bytes_line line.now) line.now (length bytes.old) result }
 {
-    let mut i = 0;
-    let mut n = 0;
-    while i < line.len() {
-        let a = line[i];
-        if a == NEWLINE {
-            return Line {
-                good: true,
-                count: n,
-                next: i + 1,
-            };
+    for (n, pair) in line.chunks(2).enumerate() {
+        if pair[0] == NEWLINE {
+            return Some(Line {
+                held: &bytes[..n],
+                rest: &line[2 * n + 1..],
+            });
         }
-        if line.len() - i < 2 {
-            return bad();
-        }
-        let b = line[i + 1];
-        if !is_hex(a) {
-            return bad();
-        }
-        if !is_hex(b) {
-            return bad();
-        }
-        bytes[n] = hex_value(a) * 16 + hex_value(b);
-        n += 1;
-        i += 2;
+        let [high, low] = pair else { return None };
+        bytes[n] = hex_value(*high)? * 16 + hex_value(*low)?;
     }
-    bad()
+    None
 }
 
 // "Line 2 is `message`, one space and an even number of hex digits, perhaps none."
-pub fn second_line(input: &[u8], bytes: &mut [u8]) -> Line
+pub fn second_line<'a>(input: &'a [u8], bytes: &'a mut [u8]) -> Option<Line<'a, u8>>
     requires { length input.now ≤ 2 * length bytes.old }
-    ensures { Reads (second_line input.now) input.now bytes.new result.good result.count result.next }
+    ensures { Reads (second_line input.now) input.now (length bytes.old) result }
 {
-    if !starts_with(input, b"message ") {
-        return bad();
-    }
-    behind(bytes_line(&input[8..], bytes), 8)
+    bytes_line(input.strip_prefix(b"message ")?, bytes)
 }

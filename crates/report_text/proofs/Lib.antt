@@ -1,3 +1,3 @@
--- One text behind the other in a buffer: Printing. A number in decimal: Decimals.
+-- The text of one key more: Printing. A number in decimal as the library writes it: Decimals.
 pub mod Printing
 pub mod Decimals

@@ -1,120 +1,118 @@
-// The lines that the night report writes, each into a lent buffer from a place on; each function answers the place
-// behind what it wrote.
+// The lines that the night report writes, each behind what was written before it.
 #![tactic(auto)]
 
-ghost use Rattle.std.specs.Prelude.{◌+◌, ◌*◌, ◌≤◌, length};
+ghost use Rattle.std.specs.Prelude.{◌≡◌, ◌+◌, ◌*◌, ◌≤◌, ◌++◌, length};
 ghost use Rattle.rules.specs.Report.{decimal, keys_text, list_text, counts_text, found_text, bad_line_text, refused_text};
 ghost use Rattle.rules.specs.Numbers.{most_samples};
 ghost use Rattle.rules.specs.Refusals.{number_of, place_of};
-ghost use Rattle.report_text.specs.Puts.{Puts, text_room};
+ghost use Rattle.report_text.specs.Puts.{Puts, Room};
 
+use arrayvec::ArrayVec;
+use itoa::Buffer;
 use rules::Answer;
 
-pub fn put_text(out: &mut [u8], at: usize, text: &[u8]) -> usize
-    requires { at + length text.now ≤ length out.old }
-    ensures { Puts out.old at text.now out.new result }
+// Room for the longest answer: 83 bytes, and 11 for each of at most 64 keys.
+pub const TEXT_ROOM: usize = 1024;
+
+// What is written: bytes without a heap, as many as there is room for.
+pub type Lines = ArrayVec<u8, TEXT_ROOM>;
+
+// A text, behind what stands in a vector that has room for it.
+pub fn put_text<const N: usize>(lines: &mut ArrayVec<u8, N>, text: &[u8])
+    requires { length lines.old.items + length text.now ≤ N }
+    ensures { Puts lines.old.items text.now (length text.now) lines.new.items }
 {
-    let mut i = 0;
-    while i < text.len() {
-        out[at + i] = text[i];
-        i += 1;
+    for &byte in text {
+        lines.push(byte);
     }
-    at + i
 }
 
-// A number in decimal: its tenth first, then its last digit. It has at most ten digits.
-fn put_number(out: &mut [u8], at: usize, n: u32) -> usize
-    requires { at + 10 ≤ length out.old }
-    ensures { Puts out.old at (decimal n) out.new result × (result ≤ at + 10) }
+// A number in decimal. It has at most ten digits.
+#[tactic(auto, using(crate::proofs::Decimals::same, crate::proofs::Decimals::short))]
+fn put_number(lines: &mut Lines, n: u32)
+    requires { Room lines.old.items 10 }
+    ensures { Puts lines.old.items (decimal n) 10 lines.new.items }
 {
-    if n < 10 {
-        out[at] = b'0' + n as u8;
-        return at + 1;
-    }
-    let last = put_number(out, at, n / 10);
-    out[last] = b'0' + (n % 10) as u8;
-    last + 1
+    let mut buffer = Buffer::new();
+    put_text(lines, buffer.format(n).as_bytes());
 }
 
 // Each key after one space.
-fn put_keys(out: &mut [u8], at: usize, keys: &[u32]) -> usize
-    requires { at + 11 * length keys.now ≤ length out.old }
-    ensures { Puts out.old at (keys_text keys.now) out.new result × (result ≤ at + 11 * length keys.now) }
+fn put_keys(lines: &mut Lines, keys: &[u32])
+    requires { Room lines.old.items (11 * length keys.now) }
+    ensures { Puts lines.old.items (keys_text keys.now) (11 * length keys.now) lines.new.items }
 {
-    let mut next = at;
-    let mut i = 0;
-    while i < keys.len() {
-        next = put_text(out, next, b" ");
-        next = put_number(out, next, keys[i]);
-        i += 1;
+    for &key in keys {
+        put_text(lines, b" ");
+        put_number(lines, key);
     }
-    next
 }
 
 // "each count and its keys, each key after one space; a count of 0 ends at the colon."
-fn put_list(out: &mut [u8], at: usize, name: &[u8], keys: &[u32]) -> usize
-    requires { (length keys.now ≤ most_samples) × (at + length name.now + 12 + 11 * length keys.now ≤ length out.old) }
-    ensures { Puts out.old at (list_text name.now keys.now) out.new result × (result ≤ at + length name.now + 12 + 11 * length keys.now) }
+#[tactic(auto, unfolding(rules::specs::Report::list_text))]
+fn put_list(lines: &mut Lines, name: &[u8], keys: &[u32])
+    requires { (length keys.now ≤ most_samples) × Room lines.old.items (length name.now + 12 + 11 * length keys.now) }
+    ensures { Puts lines.old.items (list_text name.now keys.now) (length name.now + 12 + 11 * length keys.now) lines.new.items }
 {
-    let count = keys.len() as u32;
-    let mut next = put_text(out, at, name);
-    next = put_number(out, next, count);
-    next = put_text(out, next, b":");
-    next = put_keys(out, next, keys);
-    put_text(out, next, b"\n")
+    put_text(lines, name);
+    put_number(lines, keys.len() as u32);
+    put_text(lines, b":");
+    put_keys(lines, keys);
+    put_text(lines, b"\n");
 }
 
 // "Line one: plan code, sketch size, home count."
-fn put_counts(out: &mut [u8], at: usize, plan: u32, size: u32, own: u32) -> usize
-    requires { at + 47 ≤ length out.old }
-    ensures { Puts out.old at (counts_text plan size own) out.new result × (result ≤ at + 47) }
+#[tactic(auto, unfolding(rules::specs::Report::counts_text))]
+fn put_counts(lines: &mut Lines, plan: u32, size: u32, own: u32)
+    requires { Room lines.old.items 47 }
+    ensures { Puts lines.old.items (counts_text plan size own) 47 lines.new.items }
 {
-    let mut next = put_text(out, at, b"plan ");
-    next = put_number(out, next, plan);
-    next = put_text(out, next, b" peer ");
-    next = put_number(out, next, size);
-    next = put_text(out, next, b" own ");
-    next = put_number(out, next, own);
-    put_text(out, next, b"\n")
+    put_text(lines, b"plan ");
+    put_number(lines, plan);
+    put_text(lines, b" peer ");
+    put_number(lines, size);
+    put_text(lines, b" own ");
+    put_number(lines, own);
+    put_text(lines, b"\n");
 }
 
 // The three lines of a difference.
-pub fn put_found(
-    out: &mut [u8],
-    plan: u32,
-    size: u32,
-    own: u32,
-    theirs: &[u32],
-    ours: &[u32],
-) -> usize
-    requires { (length theirs.now + length ours.now ≤ most_samples) × (text_room ≤ length out.old) }
-    ensures { Puts out.old 0 (found_text plan size own theirs.now ours.now) out.new result × (result ≤ text_room) }
+#[tactic(auto, unfolding(rules::specs::Report::found_text))]
+pub fn found(plan: u32, size: u32, own: u32, theirs: &[u32], ours: &[u32]) -> Lines
+    requires { length theirs.now + length ours.now ≤ most_samples }
+    ensures { result.items ≡ found_text plan size own theirs.now ours.now }
 {
-    let mut next = put_counts(out, 0, plan, size, own);
-    next = put_list(out, next, b"theirs ", theirs);
-    put_list(out, next, b"ours ", ours)
+    let mut lines = Lines::new();
+    put_counts(&mut lines, plan, size, own);
+    put_list(&mut lines, b"theirs ", theirs);
+    put_list(&mut lines, b"ours ", ours);
+    lines
 }
 
 // "The first line not of this form writes `bad line` and its number"
-pub fn put_bad_line(out: &mut [u8], line: u32) -> usize
-    requires { text_room ≤ length out.old }
-    ensures { Puts out.old 0 (bad_line_text line) out.new result × (result ≤ text_room) }
+#[tactic(auto, unfolding(rules::specs::Report::bad_line_text))]
+pub fn bad_line(line: u32) -> Lines
+    ensures { result.items ≡ bad_line_text line }
 {
-    let mut next = put_text(out, 0, b"bad line ");
-    next = put_number(out, next, line);
-    put_text(out, next, b"\n")
+    let mut lines = Lines::new();
+    put_text(&mut lines, b"bad line ");
+    put_number(&mut lines, line);
+    put_text(&mut lines, b"\n");
+    lines
 }
 
 // "A refusal writes one line, `refused 13 at 0`."
-pub fn put_refused(out: &mut [u8], answer: Answer) -> usize
-    requires { text_room ≤ length out.old }
-    ensures { Puts out.old 0 (refused_text (number_of answer) (place_of answer)) out.new result × (result ≤ text_room) }
+#[tactic(auto, unfolding(rules::specs::Report::refused_text))]
+pub fn refused(answer: Answer) -> Lines
+    ensures { result.items ≡ refused_text (number_of answer) (place_of answer) }
 {
     let number = refusal::number(answer);
     let place = refusal::place(answer);
-    let mut next = put_text(out, 0, b"refused ");
-    next = put_number(out, next, number);
-    next = put_text(out, next, b" at ");
-    next = put_number(out, next, place);
-    put_text(out, next, b"\n")
+    let mut lines = Lines::new();
+    put_text(&mut lines, b"refused ");
+    put_number(&mut lines, number);
+    put_text(&mut lines, b" at ");
+    put_number(&mut lines, place);
+    put_text(&mut lines, b"\n");
+    lines
 }

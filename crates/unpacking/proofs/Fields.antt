@@ -1,10 +1,10 @@
 -- A field of a message by the bytes that it lies in.
 --
 --   byte_in b i             byte i; 0 past the end
---   joined x y z, joined_four x y z w       three bytes, and four, as one number
+--   joined x y z           three bytes as one number
 --   field_part             a field that stands in a wider one is a quotient's remainder
 --   field_three            at most 17 bits from any bit on, by three bytes
---   field_four, field_eight    four bytes as a number, and eight
+--   field_eight            eight bytes as a number
 --   value_part             a value by the eight bytes that it stands in
 --
 -- Assumes nothing.
@@ -18,7 +18,7 @@ use lib.ListN.{get_or, drop}
 use lib.Seq.{drop-drop}
 use Rattle.rules.specs.Messages.{number, bits_of_all, field_at, value_width, value_at}
 use Rattle.rules.specs.Calls.{message_value}
-use Rattle.packing.specs.Packing.{below_drop, all_below, number_add, number_part, all_entry, all_more, all_three}
+use Rattle.packing.specs.Packing.{below_drop, all_below, number_part, all_entry, all_more, all_three}
 
 -- three bytes as one number
 abbrev pub joined : ℕ → ℕ → ℕ → ℕ
@@ -29,13 +29,6 @@ byte_in b i = get_or b i 0 % 2 ^ 8
 
 same : (x y z : ℕ) → x * 2 ^ 16 + (y * 2 ^ 8 + z) ≡ joined x y z
 same x y z = omega arith
-
--- and four
-abbrev pub joined_four : ℕ → ℕ → ℕ → ℕ → ℕ
-joined_four x y z w = 2 ^ 24 * x + 2 ^ 16 * y + 2 ^ 8 * z + w
-
-same_four : (x y z w : ℕ) → 2 ^ 24 * x + (2 ^ 16 * y + (2 ^ 8 * z + w)) ≡ joined_four x y z w
-same_four x y z w = omega arith
 
 module _ (b : List ℕ) where
   pub field_part : (at off w rest : ℕ) → field_at b (at + off) w ≡ field_at b at (off + (w + rest)) / 2 ^ rest % 2 ^ w
@@ -62,19 +55,20 @@ module _ (b : List ℕ) where
   unfolding field_at
   byte_last i = all_entry 8 i b
 
-  pub field_four : (j : ℕ) → field_at b (8 * j) 32 ≡ joined_four (byte_in b j) (byte_in b (j + 1)) (byte_in b (j + 2)) (byte_in b (j + 3))
-  field_four j =
-      byte_first j (j + 1) 24 (omega arith)
-      ∙ ap (λ (x : ℕ). 2 ^ 24 * byte_in b j + x) (byte_first (j + 1) (j + 2) 16 (omega arith)
-      ∙ ap (λ (x : ℕ). 2 ^ 16 * byte_in b (j + 1) + x) (byte_first (j + 2) (j + 3) 8 (omega arith) ∙ ap (λ (x : ℕ). 2 ^ 8 * byte_in b (j + 2) + x) (byte_last (j + 3))))
-      ∙ same_four (byte_in b j) (byte_in b (j + 1)) (byte_in b (j + 2)) (byte_in b (j + 3))
-
-  pub field_eight : (j : ℕ) → field_at b (8 * j) 64 ≡ 2 ^ 32 * field_at b (8 * j) 32 + field_at b (8 * (j + 4)) 32
-  unfolding field_at
+  pub field_eight : (j : ℕ) → field_at b (8 * j) 64
+      ≡ 2 ^ 56 * byte_in b j + 2 ^ 48 * byte_in b (j + 1) + 2 ^ 40 * byte_in b (j + 2) + 2 ^ 32 * byte_in b (j + 3) + 2 ^ 24 * byte_in b (j + 4) + 2 ^ 16 * byte_in b (j + 5) + 2 ^ 8 * byte_in b (j + 6) + byte_in b (j + 7)
   field_eight j =
-      let there : 8 * j + 32 ≡ 8 * (j + 4) = omega arith in
-      number_add 32 32 (drop (8 * j) (bits_of_all 8 b))
-      ∙ ap₂ (λ (x : ℕ) (l : List ℕ). x + number 32 l) (mul_comm (number 32 (drop (8 * j) (bits_of_all 8 b))) (2 ^ 32)) (drop-drop 32 (8 * j) (bits_of_all 8 b) ∙ ap (λ (n : ℕ). drop n (bits_of_all 8 b)) there)
+      omega (
+        arith,
+        byte_first j (j + 1) 56 (omega arith),
+        byte_first (j + 1) (j + 2) 48 (omega arith),
+        byte_first (j + 2) (j + 3) 40 (omega arith),
+        byte_first (j + 3) (j + 4) 32 (omega arith),
+        byte_first (j + 4) (j + 5) 24 (omega arith),
+        byte_first (j + 5) (j + 6) 16 (omega arith),
+        byte_first (j + 6) (j + 7) 8 (omega arith),
+        byte_last (j + 7),
+      )
 
   pub value_part : (i j off rest word v : ℕ) → value_at i ≡ 8 * j + off → off + (value_width + rest) ≡ 64 → word ≡ field_at b (8 * j) 64 → v ≡ word / 2 ^ rest % 2 ^ value_width → v ≡ message_value b i
   value_part i j off rest word v begins ends is e =

@@ -10,18 +10,16 @@
 --   gives, changes         what comes with an answer; where it is accepted, the sketch after the change
 --
 -- Assumes nothing.
-use Rattle.std.specs.Prelude.{◌≡◌, refl, true, false, not, ℕ, ◌≤◌, ◌<◌, ltb, leb, eqb}
+use Rattle.std.specs.Prelude.{◌≡◌, refl, true, false, not, ℕ, ◌≤◌, ◌<◌, ltb, leb, eqb, Ok, Err}
 use Rattle.std.proofs.Common.{sym, ◌∙◌, ⊎_elim, eq-zero-or-pos, arith, lt-ltb, le-ltb, le-leb, eq-eqb, ne_eqb, ltb-false, leb-false}
 use Rattle.std.proofs.lemmas.Bool.{lt-leb, eqb-false, not-false}
 use Rattle.rules.specs.Numbers.{key_limit, LegalKey, list_limit}
-use Rattle.rules.specs.Refusals.{when, ◌then◌, given}
+use Rattle.rules.specs.Refusals.{when, ◌then◌, given, Answer}
 use Rattle.rules.specs.Sketches.{WellFormed, well_formed, with_key, without_key}
 use Rattle.rules.specs.Calls.{add_answer, add_result, remove_answer, remove_result}
 use Rattle.rules.specs.Tests.{when_done, then_done, settled}
 use Rattle.rules.specs.Formed.{formed, tested}
 use Rattle.rules.specs.declared.Sketch.{Sketch}
-use Rattle.rules.specs.declared.Answer.{Answer}
-use Rattle.rules.specs.declared.Answer.TheVariants.{Done, Refused}
 use Rattle.rules.specs.declared.Refusal.TheVariants.{LargeKey, MalformedSketch, FullSketch, EmptySketch}
 use Rattle.update.specs.Changes.{MayChange, changed_by}
 use Rattle.update.specs.declared.Change.{Change}
@@ -48,32 +46,32 @@ unfolding add_answer remove_answer
 in_order Add s k = refl
 in_order Remove s k = refl
 
-pub malformed : (change : Change) (s : Sketch) (k : ℕ) → well_formed s ≡ false → Refused MalformedSketch ≡ update_answer change s k
+pub malformed : (change : Change) (s : Sketch) (k : ℕ) → well_formed s ≡ false → Err MalformedSketch ≡ update_answer change s k
 malformed change s k e = rw (← in_order change s k, e)
 
-pub large : (change : Change) (s : Sketch) (k : ℕ) → well_formed s ≡ true → key_limit < k → Refused (LargeKey 0) ≡ update_answer change s k
+pub large : (change : Change) (s : Sketch) (k : ℕ) → well_formed s ≡ true → key_limit < k → Err (LargeKey 0) ≡ update_answer change s k
 large change s k e l = rw (← in_order change s k, e, lt-ltb key_limit k l)
 
 pub passed : (change : Change) (s : Sketch) (k : ℕ) → well_formed s ≡ true → LegalKey k → last_test change s ≡ update_answer change s k
 passed change s k e l = rw (← in_order change s k, e, le-ltb key_limit k l)
 
-pub full : (s : Sketch) → list_limit ≤ s.size → last_test Add s ≡ Refused FullSketch
+pub full : (s : Sketch) → list_limit ≤ s.size → last_test Add s ≡ Err FullSketch
 full s h = rw (le-leb list_limit s.size h)
 
-pub room : (s : Sketch) → s.size < list_limit → last_test Add s ≡ Done
+pub room : (s : Sketch) → s.size < list_limit → last_test Add s ≡ Ok tt
 room s h = rw (lt-leb list_limit s.size h)
 
-pub empty : (s : Sketch) → s.size ≡ 0 → last_test Remove s ≡ Refused EmptySketch
+pub empty : (s : Sketch) → s.size ≡ 0 → last_test Remove s ≡ Err EmptySketch
 empty s h = rw (eq-eqb s.size 0 h)
 
-pub some : (s : Sketch) → (s.size ≡ 0 → ⊥) → last_test Remove s ≡ Done
+pub some : (s : Sketch) → (s.size ≡ 0 → ⊥) → last_test Remove s ≡ Ok tt
 some s h = rw (ne_eqb s.size 0 h)
 
-pub may_change : (change : Change) (s : Sketch) → last_test change s ≡ Done → MayChange change s.size
+pub may_change : (change : Change) (s : Sketch) → last_test change s ≡ Ok tt → MayChange change s.size
 may_change Add s e = leb-false list_limit s.size (when_done (leb list_limit s.size) FullSketch e)
 may_change Remove s e = ⊎_elim (λ z. absurd (eqb-false s.size 0 (when_done (eqb s.size 0) EmptySketch e) z)) (λ l. l) (eq-zero-or-pos s.size)
 
-may_pass : (change : Change) (s : Sketch) → MayChange change s.size → last_test change s ≡ Done
+may_pass : (change : Change) (s : Sketch) → MayChange change s.size → last_test change s ≡ Ok tt
 may_pass Add s h = room s h
 may_pass Remove s h = some s (λ e. omega arith)
 
@@ -82,7 +80,7 @@ pub record Accepted (change : Change) (s : Sketch) (k : ℕ) : Type 0 where
   pub key : LegalKey k
   pub size : MayChange change s.size
 
-pub accepted : (change : Change) (s : Sketch) (k : ℕ) → update_answer change s k ≡ Done → Accepted change s k
+pub accepted : (change : Change) (s : Sketch) (k : ℕ) → update_answer change s k ≡ Ok tt → Accepted change s k
 accepted change s k e =
     let p = then_done (when (not (well_formed s)) MalformedSketch) (when (ltb key_limit k) (LargeKey 0) then last_test change s) (in_order change s k ∙ e) in
     let q = then_done (when (ltb key_limit k) (LargeKey 0)) (last_test change s) p.1 in
@@ -92,7 +90,7 @@ accepted change s k e =
       size = may_change change s q.1;
     }
 
-pub updates : (change : Change) (s : Sketch) (k : ℕ) → Accepted change s k → update_answer change s k ≡ Done
+pub updates : (change : Change) (s : Sketch) (k : ℕ) → Accepted change s k → update_answer change s k ≡ Ok tt
 updates change s k a = sym (passed change s k (tested s a.sketch) a.key) ∙ may_pass change s a.size
 
 -- what comes with an answer
@@ -101,4 +99,4 @@ gives Add s k a e = (settled a (add_answer s k) (with_key s k) s e).1
 gives Remove s k a e = (settled a (remove_answer s k) (without_key s k) s e).1
 
 pub changes : (change : Change) (s : Sketch) (k : ℕ) → Accepted change s k → update_result change s k ≡ changed_by change s k
-changes change s k a = sym (gives change s k Done (sym (updates change s k a)))
+changes change s k a = sym (gives change s k (Ok tt) (sym (updates change s k a)))

@@ -1,12 +1,6 @@
--- `encoding::put_keys` meets its contract. The loop's invariant: the first j bytes of the keys stand at the front, and the others are as before. The measure is how many bytes are left.
--- Assumes nothing.
-use Prim.Native.Nat.{◌-◌, ◌≤◌}
-use Rattle.rules.specs.Entries.{bytes_of}
-use Rattle.area.proofs.Copies.{Copied}
+-- `encoding::put_keys` meets its contract. The loop's invariant: the first i keys stand as bytes at the front, and the others are as before. Assumes nothing.
+use Rattle.encoding.proofs.Keys.{Placed}
 use Rattle.encoding.proofs.put_keys.Given as goal
 
-abbrev pub invariant-loop-j : goal.invariant-loop-j
-invariant-loop-j l = (l.j ≤ l.end) × Copied l.initial.buffer (bytes_of l.keys) l.j l.buffer
-
-abbrev pub decreases-loop-j : goal.decreases-loop-j
-decreases-loop-j l = l.end - l.j
+abbrev pub invariant-loop-i : goal.invariant-loop-i
+invariant-loop-i l = Placed l.keys l.initial.buffer l.i l.buffer

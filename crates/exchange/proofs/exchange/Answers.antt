@@ -1,31 +1,31 @@
 -- `exchange::exchange` meets its contract: home reads the very sketch that the dome made, so reconciling tells exactly the two differences. Assumes nothing.
 use mathlib.Core.Path.{◌≡◌, refl, sym, subst, ◌∙◌}
 use Prim.Native.Nat.{◌≤◌}
-use lib.ListN.{length}
+use lib.ListN.{length, replicate}
 use lib.Seq.{length-take-le}
-use lib.ListN.{replicate}
 use Rattle.rules.specs.Messages.{longest_message}
 use Rattle.rules.specs.Numbers.{plan_of}
 use Rattle.rules.specs.Sketches.{sketch_of}
 use Rattle.rules.specs.Calls.{sketch_answer}
 use Rattle.exchange.specs.Exchanged.{left}
 use Rattle.rules.specs.Reconciling.{Left, Reconciles}
-use Rattle.rules.specs.declared.Answer.TheVariants.{Done}
+use Rattle.std.specs.Prelude.{Ok, Err}
 use Rattle.exchange.proofs.Sending.{fits, carried, sent, sent_tells, refused, refused_tells}
 use Rattle.exchange.proofs.exchange.Goals.{After-write-written}
 use Rattle.exchange.proofs.exchange.Goals as goal
 
-pub returns-in-Refused : goal.returns-in-Refused
-returns-in-Refused c =
+pub returns-in-Err : goal.returns-in-Err
+returns-in-Err c =
     let a = c.args in
-    let told = c.in-Refused in
-    let made = c.sketch-made in record {
-      composed = refused a.plan a.dome.now a.home.now a.theirs.now a.ours.now made.result.answer told.field-0 told.is made.ensures.0;
-      told = refused_tells a.plan a.dome.now a.home.now a.theirs.now a.ours.now made.result.answer told.field-0 told.is made.ensures.0;
-    }
+    let why = c.in-Err.why in
+    let made = c.sketch-made in
+    rw c.refused.ensures (record {
+      composed = refused a.plan a.dome.now a.home.now a.theirs.now a.ours.now (Err why) why refl (sym c.in-Err.is ∙ made.ensures.0);
+      told = refused_tells a.plan a.dome.now a.home.now a.theirs.now a.ours.now (Err why) why refl (sym c.in-Err.is ∙ made.ensures.0);
+    })
 
 -- the dome's sketch was not refused, and its message has room
-done : (c : After-write-written) → sketch_answer c.args.plan c.args.dome.now ≡ Done
+done : (c : After-write-written) → sketch_answer c.args.plan c.args.dome.now ≡ Ok tt
 done c = sym c.sketch-made.ensures.0 ∙ c.in_default.is
 
 room : (c : After-write-written) → c.write-written.result.length ≤ length c.write-written.new.buffer
@@ -41,7 +41,7 @@ pub returns : goal.returns
 returns c =
     let a = c.args in
     let made = c.sketch-made in
-    let same = carried a.plan a.dome.now made.result.sketch (done (goal.at.returns c).After-write-written) made.ensures.1 (replicate longest_message 0) c.write-written.new.buffer c.write-written.result.length refl c.write-written.ensures.1 c.write-written.ensures.2 _ c.read-got.ensures.1 in
+    let same = carried a.plan a.dome.now made.result.sketch (done (goal.at.returns c).After-write-written) made.ensures.1 (replicate longest_message 0) c.write-written.new.buffer c.write-written.result.length refl c.write-written.ensures.1 c.write-written.ensures.2 _ c.read-read.ensures.1 in
     let met = c.reconcile in
     let l : Left = left met.result met.new.theirs met.new.ours in
     let r : Reconciles (sketch_of (plan_of a.plan) a.dome.now) a.home.now a.theirs.now a.ours.now l =

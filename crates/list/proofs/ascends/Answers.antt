@@ -1,25 +1,21 @@
--- `list::ascends` meets its contract. The loop's invariant: the count is 0 exactly where the first i keys ascend, and is below i. The measure is
--- what is left of the list. Assumes nothing.
-use mathlib.Core.Path.{sym, subst}
-use Prim.Native.Nat.{ℕ, ◌+◌}
+-- `list::ascends` meets its contract. The loop's invariant: of the pairs that the windows have passed the count is 0
+-- exactly where each rises, and it is at most as many. Assumes nothing.
+use mathlib.Core.Path.{refl}
 use native.Mathlib.Omega.{arith}
-use borrow.Author.Rules.{rules}
-use Rattle.list.proofs.Order.{RisesBy, rises_none, rises_more, rises_told}
+use Rattle.std.specs.Prelude.{Some}
+use Rattle.std.proofs.lemmas.Iterator.{window_more}
+use Rattle.list.proofs.Order.{passed_none, passed_more, passed_all}
 use Rattle.list.proofs.ascends.Goals as goal
 
-pub loop-i-init : goal.loop-i-init
-loop-i-init c = (search rules, λ h. absurd (omega arith), search rules, rises_none _)
+pub loop-pair-init : goal.loop-pair-init
+loop-pair-init c = rw c.into_iter-pair-iterator.ensures.into_iter_gives (passed_none _ _ _ c.windows-pair-items.ensures.size c.windows-pair-items.ensures.rest)
 
-pub overflow_sub-i : goal.overflow_sub-i
-overflow_sub-i c = c.loop-i.invariant.0
-
-pub loop-i-preserved : goal.loop-i-preserved
-loop-i-preserved c =
-    let l = c.loop-i in
-    let a = c.args in
-    (search rules, λ h. search rules, search rules, subst (λ (n : ℕ). RisesBy (l.i + 1) a.keys.now (l.falls + n)) (sym c.fall-falls.ensures.0) (rises_more l.invariant.0 l.invariant.3))
+pub loop-pair-preserved : goal.loop-pair-preserved
+loop-pair-preserved c =
+    let steps = c.in-Some.ensures.steps in
+    let p = c.loop-pair.invariant in
+    let one = window_more c.args.keys.now c.loop-pair.pair-iterator c.next.new.self (Some c.in-Some.pair) c.in-Some.pair refl steps (omega (arith, p.two)) p.here p.left in
+    rw c.fall-falls.ensures.0 (passed_more _ _ _ _ _ _ _ _ p steps.0 one.0 one.1 one.2 (one.3 0 0 (omega (arith, p.two))) (one.3 1 0 (omega (arith, p.two))))
 
 pub returns : goal.returns
-returns c =
-    let l = c.loop-i in
-    rises_told c.loop-i-test.false l.invariant.1 l.invariant.3
+returns c = passed_all _ _ _ _ c.loop-pair.invariant c.in-None.ensures.steps.1.0

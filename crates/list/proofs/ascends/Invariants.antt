@@ -1,12 +1,8 @@
--- `list::ascends` meets its contract. The loop's invariant: the count is 0 exactly where the first i keys ascend, and is below i. The measure is
--- what is left of the list. Assumes nothing.
-use Prim.Native.Nat.{◌-◌, ◌≤◌, ◌<◌}
-use lib.ListN.{length}
-use Rattle.list.proofs.Order.{RisesBy}
+-- `list::ascends` meets its contract. The loop's invariant: of the pairs that the windows have passed the count is 0
+-- exactly where each rises, and it is at most as many. Assumes nothing.
+use Rattle.std.specs.Slice.Iter.{windows_rest, windows_size}
+use Rattle.list.proofs.Order.{Passed}
 use Rattle.list.proofs.ascends.Given as goal
 
-abbrev pub invariant-loop-i : goal.invariant-loop-i
-invariant-loop-i l = (1 ≤ l.i) × (1 < l.i → l.i ≤ length l.keys) × (l.falls < l.i) × RisesBy l.i l.keys l.falls
-
-abbrev pub decreases-loop-i : goal.decreases-loop-i
-decreases-loop-i l = length l.keys - l.i
+abbrev pub invariant-loop-pair : goal.invariant-loop-pair
+invariant-loop-pair l = Passed l.keys (windows_size l.pair-iterator) (windows_rest l.pair-iterator) l.falls

@@ -5,9 +5,3 @@ use Rattle.message.proofs.write.Goals as goal
 
 pub returns-then-not-well_formed : goal.returns-then-not-well_formed
 returns-then-not-well_formed c = malformed c.args.s c.args.buffer.now (sym c.well_formed-2.ensures ∙ c.if-not-well_formed.true)
-
-pub write_formed-requires : goal.write_formed-requires
-write_formed-requires c = sym c.well_formed-2.ensures ∙ c.if-not-well_formed.false
-
-pub returns : goal.returns
-returns c = c.write_formed.ensures

@@ -1,13 +1,10 @@
--- `packing::fill_bytes` meets its contract. The loop's invariant: `FilledTo`, and `both` are value k and the next. The measure is what is left of the buffer.
--- Assumes nothing.
+-- `packing::fill_bytes` meets its contract. The loop's invariant: the place is that of the next byte, and the bytes before it are the message's. Assumes nothing.
 use mathlib.Core.Path.{◌≡◌}
-use Prim.Native.Nat.{◌-◌}
-use lib.ListN.{length}
-use Rattle.packing.specs.Positions.{two_of, FilledTo}
+use Prim.Native.Nat.{◌+◌}
+use lib.ListN.{length, take, drop}
+use Rattle.packing.specs.Positions.{behind}
 use Rattle.packing.proofs.fill_bytes.Given as goal
 
-abbrev pub invariant-loop-j : goal.invariant-loop-j
-invariant-loop-j l = FilledTo l.values (length l.initial.buffer) l.j l.k l.off l.buffer × (l.both ≡ two_of l.values l.k)
-
-abbrev pub decreases-loop-j : goal.decreases-loop-j
-decreases-loop-j l = length l.initial.buffer - l.j
+abbrev pub invariant-loop-byte : goal.invariant-loop-byte
+invariant-loop-byte l =
+    (l.place.j ≡ l.fn.from.j + l.byte-index) × (take l.byte-index l.byte-items ≡ take l.byte-index (drop l.fn.from.j (behind l.values (length l.fn.buffer))))

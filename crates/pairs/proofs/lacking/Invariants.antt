@@ -1,12 +1,13 @@
--- `pairs::lacking` meets its contract. The loop's invariant: no more keys are written than were looked at, and the
--- buffer keeps its length. The measure is what is left of them. Assumes nothing.
+-- `pairs::lacking` meets its contract. The loop's invariant: of the numbers looked at, those that the other list lacks
+-- are there. Assumes nothing.
 use mathlib.Core.Path.{◌≡◌}
-use Prim.Native.Nat.{◌-◌, ◌≤◌}
-use lib.ListN.{length}
+use mathlib.Core.Bool.{not}
+use Prim.Native.Nat.{◌≤◌}
+use lib.ListN.{take}
+use Rattle.std.specs.Prelude.{filter, ◌==◌}
+use Rattle.std.specs.List.{list_any}
+use Rattle.arrayvec.specs.ArrayVec.{array_vec_len}
 use Rattle.pairs.proofs.lacking.Given as goal
 
-abbrev pub invariant-loop-i : goal.invariant-loop-i
-invariant-loop-i l = (l.i ≤ length l.list) × (l.n ≤ l.i) × (length l.out ≡ length l.initial.out)
-
-abbrev pub decreases-loop-i : goal.decreases-loop-i
-decreases-loop-i l = length l.list - l.i
+abbrev pub invariant-loop-key : goal.invariant-loop-key
+invariant-loop-key l = (array_vec_len l.keys ≤ l.key-index) × (l.keys.items ≡ filter (λ key. not (list_any (λ y. y == key) l.other)) (take l.key-index l.list))

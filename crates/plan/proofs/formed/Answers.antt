@@ -10,7 +10,7 @@ use Rattle.rules.specs.Formed.{formed as formed-of, tested}
 use Rattle.rules.specs.Filled.{sketch_from}
 use Rattle.rules.specs.declared.Sketch.{Sketch}
 use Rattle.plan.specs.Faults.{Value, Unused, Faults, or_zero, zero_or}
-use Rattle.plan.proofs.formed.Goals.{After-samples-m}
+use Rattle.plan.proofs.formed.Goals.{After-samples-m, then-from-ge-PLANS-via-then-from-ge-PLANS, then-from-ge-PLANS-via-else-from-ge-PLANS+then-size-gt-LIST_LIMIT}
 use Rattle.plan.proofs.formed.Goals as goal
 
 -- what the tests before the slots leave
@@ -44,11 +44,13 @@ decides s a b p z count low high =
     omega arith)))
     (eq-zero-or-pos (bit_or a b))
 
-pub returns-then-plan-ge-PLANS : goal.returns-then-plan-ge-PLANS
-returns-then-plan-ge-PLANS c = sym (large_plan _ c.if-plan-ge-PLANS.true)
-
-pub returns-then-size-gt-LIST_LIMIT : goal.returns-then-size-gt-LIST_LIMIT
-returns-then-size-gt-LIST_LIMIT c = sym (large_size _ c.if-plan-ge-PLANS.false c.if-size-gt-LIST_LIMIT.true)
+pub returns-then-from-ge-PLANS : goal.returns-then-from-ge-PLANS
+returns-then-from-ge-PLANS c =
+    let a = c.args in
+    elim c.then-from-ge-PLANS.branch [
+      | then-from-ge-PLANS-via-then-from-ge-PLANS w ↦ sym (large_plan (sketch_from a.plan a.size a.values.now) (omega arith))
+      | then-from-ge-PLANS-via-else-from-ge-PLANS+then-size-gt-LIST_LIMIT w ↦ sym (large_size (sketch_from a.plan a.size a.values.now) (omega arith) (omega arith))
+    ]
 
 most : (c : After-samples-m) → c.samples-m.result ≤ most_samples
 most c = rw c.samples-m.ensures (samples_most c.args.plan)
@@ -57,13 +59,13 @@ pub bad_values-requires : goal.bad_values-requires
 bad_values-requires c = most c
 
 pub bad_rests-requires : goal.bad_rests-requires
-bad_rests-requires c = most (goal.at.bad_rests-requires c).After-samples-m
+bad_rests-requires c = let h = most (goal.at.bad_rests-requires c).After-samples-m in omega arith
 
 pub returns : goal.returns
 returns c =
     let start = c.before.before.before.before.before in
     let a = start.args in
     let s = c.samples-m.ensures in
-    decides (sketch_from a.plan a.size a.values.now) _ _ c.if-plan-ge-PLANS.false c.if-size-gt-LIST_LIMIT.false start.requires
+    decides (sketch_from a.plan a.size a.values.now) _ _ (omega arith) (omega arith) start.requires
     (subst (λ (m : ℕ). Faults Value 0 m a.values.now c.bad_values.result) s c.bad_values.ensures)
     (subst (λ (m : ℕ). Faults Unused m most_samples a.values.now c.bad_rests.result) s c.bad_rests.ensures)

@@ -1,66 +1,66 @@
--- `report_input::bytes_line` meets its contract. The loop's invariant is `BytesRead`: so many bytes are stored, and
--- the line is what they and the rest of it give. The measure is what is left of the line. Assumes nothing.
-use mathlib.Core.Path.{◌≡◌, refl, sym, ap₂, ◌∙◌}
-use Prim.Native.Nat.{ℕ, ◌+◌, ◌*◌}
-use borrow.Author.Rules.{rules}
-use lib.ListN.{get_or}
-use lib.ListN.{length-set}
-use Rattle.rules.specs.Report.{is_hex}
-use Rattle.rules.specs.Tests.{true_and}
-use mathlib.Core.Bool.{true}
-use Rattle.rules.specs.Tests.{and_false, and_rest}
-use Rattle.report_input.proofs.Ahead.{is_bad}
-use Rattle.report_input.proofs.ByteLines.{begun, ended, newline_ends, alone, no_hex, pair}
-use Rattle.report_input.proofs.bytes_line.Goals.{Else-not-is_hex, Else-not-is_hex-2}
+-- `report_input::bytes_line` meets its contract. The loop's invariant is `BytesRead`: so many pairs are stored, and
+-- the line is what they and the rest of it give. Assumes nothing.
+use mathlib.Core.Path.{refl, sym, ap, ap₂, ◌∙◌}
+use Prim.Native.Nat.{ℕ, ◌+◌, ◌*◌, min}
+use native.Mathlib.Omega.{arith}
+use lib.ListN.{length, length-set}
+use borrow.Author.Tests.{ltb-true, ltb-false}
+use Rattle.std.specs.Slice.Iter.{chunks_rest}
+use Rattle.rules.specs.Tests.{and_false, and_rest, true_and}
+use Rattle.report_input.proofs.Ahead.{to_end}
+use Rattle.report_input.proofs.ByteLines.{PairCut, begun, ended, newline_ends, alone, no_hex, more}
+use Rattle.report_input.proofs.bytes_line.Goals.{In-Some, in_default-via-then-pair-lt2, in_default-via-else-pair-lt2+else-pair-lt3}
 use Rattle.report_input.proofs.bytes_line.Goals as goal
 
--- both bytes of a pair are hex digits
-first_hex : (c : Else-not-is_hex) → is_hex (get_or c.args.line.now c.loop-i.i 0) ≡ true
-first_hex c = sym c.is_hex.ensures ∙ c.if-not-is_hex.false
+-- the pair of this turn
+next : (c : In-Some) → PairCut c.args.line.now c.loop-n.bytes c.in-Some.n c.in-Some.pair.now (chunks_rest c.next.new.self.iter)
+next c =
+    let s = c.in-Some.ensures.steps in
+    let rest = chunks_rest c.loop-n.n-iterator.iter in
+    record {
+      rest = rest;
+      read = rw s.1 c.loop-n.invariant.2;
+      cut = s.0.1.0;
+      two = s.0.1.1 ∙ ap (λ (k : ℕ). min k (length rest)) c.loop-n.invariant.0;
+      some = s.0.1.2;
+    }
 
-second_hex : (c : Else-not-is_hex-2) → is_hex (get_or c.args.line.now (c.loop-i.i + 1) 0) ≡ true
-second_hex c = sym c.is_hex-in-loop-i.ensures ∙ c.if-not-is_hex-2.false
+pub loop-n-init : goal.loop-n-init
+loop-n-init c = rw (c.into_iter-n-iterator.ensures.into_iter_gives, c.enumerate-n-items.ensures.count, c.enumerate-n-items.ensures.source, c.chunks.ensures.size, c.chunks.ensures.rest) (refl, refl, begun _ _ c.requires)
 
-pub loop-i-init : goal.loop-i-init
-loop-i-init c = (search rules, begun _ _ (search rules))
+pub returns-then-pair-eq-NEWLINE : goal.returns-then-pair-eq-NEWLINE
+returns-then-pair-eq-NEWLINE c =
+    let turn = next (goal.at.returns-then-pair-eq-NEWLINE c).In-Some in
+    rw (to_end (2 * c.in-Some.n + 1) c.args.line.now, sym c.loop-n.invariant.1) (newline_ends _ _ _ _ _ turn c.if-pair-eq-NEWLINE.true)
 
-pub returns-then-a-eq-NEWLINE : goal.returns-then-a-eq-NEWLINE
-returns-then-a-eq-NEWLINE c =
-    let l = c.loop-i in
-    newline_ends c.args.line.now l.bytes l.i l.n _ l.invariant.1 (search rules) refl c.if-a-eq-NEWLINE.true
+pub returns-in_default : goal.returns-in_default
+returns-in_default c =
+    let turn = next (goal.at.returns-in_default c).In-Some in
+    elim c.in_default.branch [
+      | in_default-via-then-pair-lt2 w ↦ alone _ _ _ _ _ turn c.if-pair-eq-NEWLINE.false (λ e. omega (arith, ltb-true, ltb-false))
+      | in_default-via-else-pair-lt2+else-pair-lt3 w ↦ alone _ _ _ _ _ turn c.if-pair-eq-NEWLINE.false (λ e. omega (arith, ltb-true, ltb-false))
+    ]
 
-pub returns-then-line-i-lt2 : goal.returns-then-line-i-lt2
-returns-then-line-i-lt2 c =
-    let l = c.loop-i in
-    is_bad _ _ _ _ _ _ c.bad.ensures (alone c.args.line.now l.bytes l.i l.n _ l.invariant.1 (search rules) refl c.if-a-eq-NEWLINE.false (search rules))
+pub returns-in_err-hex_value : goal.returns-in_err-hex_value
+returns-in_err-hex_value c =
+    let turn = next (goal.at.returns-in_err-hex_value c).In-Some in
+    rw c.from_residual.ensures (no_hex _ _ _ _ _ turn c.if-pair-eq-NEWLINE.false (omega arith) (sym (and_false _ _ c.in_err-hex_value.ensures)))
 
-pub returns-then-not-is_hex : goal.returns-then-not-is_hex
-returns-then-not-is_hex c =
-    let l = c.loop-i in
-    is_bad _ _ _ _ _ _ c.bad-then-not-is_hex.ensures
-    (no_hex c.args.line.now l.bytes l.i l.n _ l.invariant.1 (search rules) refl c.if-a-eq-NEWLINE.false _ (search rules) refl (sym (and_false _ _ (sym c.is_hex.ensures ∙ c.if-not-is_hex.true))))
+pub returns-in_err-bytes : goal.returns-in_err-bytes
+returns-in_err-bytes c =
+    let turn = next (goal.at.returns-in_err-bytes c).In-Some in
+    rw c.from_residual-in_err-bytes.ensures (no_hex _ _ _ _ _ turn c.if-pair-eq-NEWLINE.false (omega arith) (sym (and_rest _ _ c.in_ok-hex_value.ensures.0) ∙ c.in_err-bytes.ensures))
 
-pub returns-then-not-is_hex-2 : goal.returns-then-not-is_hex-2
-returns-then-not-is_hex-2 c =
-    let l = c.loop-i in
-    is_bad _ _ _ _ _ _ c.bad-then-not-is_hex-2.ensures
-    (no_hex c.args.line.now l.bytes l.i l.n _ l.invariant.1 (search rules) refl c.if-a-eq-NEWLINE.false _ (search rules) refl (sym (and_rest _ _ (first_hex (goal.at.returns-then-not-is_hex-2 c).Else-not-is_hex)) ∙ sym c.is_hex-in-loop-i.ensures ∙ c.if-not-is_hex-2.true))
-
-pub hex_value-requires : goal.hex_value-requires
-hex_value-requires c = first_hex (goal.at.hex_value-requires c).Else-not-is_hex
-
-pub hex_value-requires-in-loop-i : goal.hex_value-requires-in-loop-i
-hex_value-requires-in-loop-i c = second_hex (goal.at.hex_value-requires-in-loop-i c).Else-not-is_hex-2
-
-pub loop-i-preserved : goal.loop-i-preserved
-loop-i-preserved c =
-    let l = c.loop-i in
-    let a = c.args in
-    let v = c.hex_value.result * 16 + c.hex_value-in-loop-i.result in
-    let value = ap₂ (λ (x y : ℕ). x * 16 + y) c.hex_value.ensures.0 c.hex_value-in-loop-i.ensures.0 in
-    (length-set l.bytes l.n v ∙ l.invariant.0, pair a.line.now l.bytes l.i l.n _ l.invariant.1 (search rules) refl c.if-a-eq-NEWLINE.false _ (search rules) refl v (true_and _ _ (first_hex (goal.at.loop-i-preserved c).Else-not-is_hex) (second_hex (goal.at.loop-i-preserved c).Else-not-is_hex-2)) value)
+pub loop-n-preserved : goal.loop-n-preserved
+loop-n-preserved c =
+    let turn = next (goal.at.loop-n-preserved c).In-Some in
+    let steps = c.in-Some.ensures.steps in
+    let high = c.in_ok-hex_value.ensures in
+    let low = c.in_ok-bytes.ensures in (
+      steps.0.0 ∙ c.loop-n.invariant.0,
+      length-set _ _ _ ∙ c.loop-n.invariant.1,
+      rw (steps.2, sym steps.1) (more _ _ _ _ _ turn c.if-pair-eq-NEWLINE.false (omega arith) _ (true_and _ _ high.0 low.0) (ap₂ (λ (x y : ℕ). x * 16 + y) high.1 low.1)),
+    )
 
 pub returns : goal.returns
-returns c =
-    let l = c.loop-i in
-    is_bad _ _ _ _ _ _ c.bad-2.ensures (ended c.args.line.now l.bytes l.i l.n 0 l.invariant.1 (search rules))
+returns c = ended _ _ _ _ c.loop-n.invariant.2 c.in-None.ensures.steps.0.1.0

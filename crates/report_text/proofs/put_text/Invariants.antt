@@ -1,14 +1,7 @@
--- `report_text::put_text` meets its contract. The loop's invariant: the first i bytes of the text are written. The measure is what is left of the text.
+-- `report_text::put_text` meets its contract. The loop's invariant: the first bytes of the text stand behind the lines.
 -- Assumes nothing.
-use mathlib.Core.Path.{◌≡◌}
-use Prim.Native.Nat.{◌+◌, ◌-◌, ◌≤◌}
-use lib.ListN.{length}
-use lib.ListN.{take}
-use Rattle.report_text.specs.Puts.{Puts}
+use Rattle.std.proofs.Common.{◌≡◌, ◌++◌, take}
 use Rattle.report_text.proofs.put_text.Given as goal
 
-abbrev pub invariant-loop-i : goal.invariant-loop-i
-invariant-loop-i l = (l.i ≤ length l.text) × (length l.out ≡ length l.initial.out) × Puts l.initial.out l.at (take l.i l.text) l.out (l.at + l.i)
-
-abbrev pub decreases-loop-i : goal.decreases-loop-i
-decreases-loop-i l = length l.text - l.i
+abbrev pub invariant-loop-byte : goal.invariant-loop-byte
+invariant-loop-byte g l = l.lines.items ≡ l.initial.lines.items ++ take l.byte-index l.text

@@ -1,12 +1,7 @@
--- `running::collect` meets its contract. The loop's invariant: no more keys are written than were looked at. The measure is what is left of them.
--- Assumes nothing.
-use mathlib.Core.Path.{◌≡◌}
-use Prim.Native.Nat.{◌-◌, ◌≤◌}
-use lib.ListN.{length}
+-- `running::collect` meets its contract. The loop's invariant: no more keys are in than were looked at. Assumes nothing.
+use Prim.Native.Nat.{◌≤◌}
+use Rattle.arrayvec.specs.ArrayVec.{array_vec_len}
 use Rattle.running.proofs.collect.Given as goal
 
 abbrev pub invariant-loop-j : goal.invariant-loop-j
-invariant-loop-j l = (l.j ≤ length l.inside) × (l.n ≤ l.j) × (length l.list ≡ 64)
-
-abbrev pub decreases-loop-j : goal.decreases-loop-j
-decreases-loop-j l = length l.inside - l.j
+invariant-loop-j l = array_vec_len l.keys ≤ l.j

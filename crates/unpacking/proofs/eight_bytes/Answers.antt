@@ -1,11 +1,11 @@
 -- `unpacking::eight_bytes` meets its contract, by `field_eight`. Assumes nothing.
-use mathlib.Core.Path.{sym, ap₂, ◌∙◌}
-use Prim.Native.Nat.{ℕ, ◌+◌, ◌*◌, ◌^◌}
+use Prim.Native.Nat.{◌+◌}
+use native.Mathlib.Omega.{arith}
 use Rattle.unpacking.proofs.Fields.{field_eight}
 use Rattle.unpacking.proofs.eight_bytes.Goals as goal
 
 pub returns : goal.returns
 returns c =
-    let a = c.args in
-    let b = a.message.now in
-    ap₂ (λ (x y : ℕ). 2 ^ 32 * x + y) c.four_bytes.ensures.0 c.four_bytes-2.ensures.0 ∙ sym (field_eight b a.j)
+    let j = c.args.j in
+    let byte = c.type_inv.message in
+    omega (arith, c.from_be_bytes.ensures, field_eight c.args.message.now j, byte j, byte (j + 1), byte (j + 2), byte (j + 3), byte (j + 4), byte (j + 5), byte (j + 6), byte (j + 7))

@@ -1,12 +1,6 @@
--- `verdict::new_to` meets its contract. The loop's invariant: none of the first i keys is at home. The measure is how
--- many keys are left. Assumes nothing.
+-- `verdict::new_to` meets its contract. The loop's invariant: none of the keys so far is at home. Assumes nothing.
 use Rattle.verdict.proofs.Checks.{NewBelow}
-use Prim.Native.Nat.{◌-◌, ◌≤◌}
-use lib.ListN.{length}
 use Rattle.verdict.proofs.new_to.Given as goal
 
-abbrev pub invariant-loop-i : goal.invariant-loop-i
-invariant-loop-i l = (l.i ≤ length l.theirs) × NewBelow l.home l.theirs l.i
-
-abbrev pub decreases-loop-i : goal.decreases-loop-i
-decreases-loop-i l = length l.theirs - l.i
+abbrev pub invariant-loop-key : goal.invariant-loop-key
+invariant-loop-key l = NewBelow l.home l.theirs l.key-index

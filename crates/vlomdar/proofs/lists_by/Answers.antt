@@ -26,14 +26,14 @@ left c = record {
 facts : (c : After-reconcile_told-found) → let a = c.args in Found a.s a.home.now a.theirs.now a.ours.now (left c)
 facts c =
     let a = c.args in
-    found_of a.s a.home.now a.theirs.now a.ours.now _ _ _ _ _ _ _ _ (left c) (let p = c.requires in (p.1, p.2)) c.keys_in-taken.ensures refl refl c.lesser-theirs_room.ensures c.lesser-ours_room.ensures c.reconcile_told-found.ensures
+    found_of a.s a.home.now a.theirs.now a.ours.now _ _ _ _ _ _ _ _ (left c) c.requires.1 c.keys_in-taken.ensures refl refl c.min-theirs_room.ensures c.min-ours_room.ensures c.reconcile_told-found.ensures
 
 -- the two arrays behind the parts that were lent
 abbrev theirs-rest : After-reconcile_told-found → List ℕ
-theirs-rest c = drop c.lesser-theirs_room.result (replicate most_samples 0)
+theirs-rest c = drop c.min-theirs_room.result (replicate most_samples 0)
 
 abbrev ours-rest : After-reconcile_told-found → List ℕ
-ours-rest c = drop c.lesser-ours_room.result (replicate most_samples 0)
+ours-rest c = drop c.min-ours_room.result (replicate most_samples 0)
 
 theirs_stand : (c : After-reconcile_told-found) → (left c).theirs_count ≤ length ((left c).theirs ++ theirs-rest c)
 theirs_stand c = stands (left c).theirs_count (left c).theirs (theirs-rest c) (facts c).theirs_stand

@@ -1,2 +1,0 @@
--- What the comparison of two calls shows: Same.
-pub mod Same

@@ -1,0 +1,2 @@
+-- The room that an entry makes for keys: Room.
+pub mod Room
