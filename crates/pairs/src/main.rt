@@ -4,6 +4,7 @@
 
 ghost use Rattle.std.specs.Prelude.{◌≡◌, ◌==◌, not, ◌≤◌, ◌<◌, filter, length};
 ghost use Rattle.std.specs.List.{list_any};
+ghost use Rattle.arrayvec.specs.ArrayVec.{array_vec_len};
 
 use arrayvec::ArrayVec;
 use draws::Draws;
@@ -30,6 +31,7 @@ struct Sets {
 // eight, and of these `lean` of four at the dome.
 fn draw(seed: u16, count: usize, most: usize, often: u16, lean: u16) -> Sets
     requires { count ≤ 64 }
+    ensures { (array_vec_len result.dome ≤ 64) × (array_vec_len result.home ≤ 64) }
 {
     let mut draws = Draws { last: seed };
     let mut dome = Keys::new();

@@ -65,7 +65,7 @@ fn after_first(keys: &[u32], rest: &[u8]) -> Lines
     match report_input::second_line(rest, &mut message) {
         None => report_text::bad_line(2),
         Some(line) if !line.rest.is_empty() => report_text::bad_line(3),
-        Some(line) => after_read(keys, line.held),
+        Some(line) => after_read(keys, &message[..line.count]),
     }
 }
 
@@ -81,7 +81,7 @@ fn written(input: &[u8]) -> Lines
     let mut keys = [0u32; KEYS_LIMIT];
     match report_input::first_line(input, &mut keys) {
         None => report_text::bad_line(1),
-        Some(line) => after_first(line.held, line.rest),
+        Some(line) => after_first(&keys[..line.count], line.rest),
     }
 }
 

@@ -3,15 +3,16 @@
 --   ahead held line        the line with more in front of what it holds
 --   ahead_none, ahead_first    nothing in front; what a line holds first goes behind what is in front
 --   to_end                 a part from k on
---   behind_word            a line that begins with a word is read behind it
+--   place_of               its place is what its length leaves of the whole
+--   behind                 a line that begins k bytes on is read from there
 --
 -- Assumes nothing.
 use mathlib.Core.Path.{◌≡◌, refl, sym, ap, ◌∙◌}
 use mathlib.Core.List.{List, [], ◌∷◌, ◌++◌, append_assoc}
-use Prim.Native.Nat.{ℕ, ◌-◌, ◌≤◌}
+use Prim.Native.Nat.{ℕ, ◌+◌, ◌-◌, ◌≤◌}
 use native.Mathlib.Omega.{arith}
 use lib.ListN.{length, take, drop, length-drop}
-use lib.Seq.{take_all}
+use lib.Seq.{drop-drop, take_all}
 use Rattle.rules.specs.Report.{Line, good, bad, first}
 use Rattle.std.specs.Prelude.{Option, Some, None}
 use Rattle.report_input.specs.declared.Line.{Line as Read}
@@ -33,7 +34,15 @@ ahead_first held x bad = refl
 pub to_end : (k : ℕ) (l : List ℕ) → take (length l - k) (drop k l) ≡ drop k l
 to_end k l = take_all (length l - k) (drop k l) (let e = length-drop k l in omega arith)
 
--- a line that begins with a word is what stands behind the word
-pub behind_word : (line rest-line : Line) (input rest : List ℕ) (room : ℕ) (read : Option (Read ℕ)) → line ≡ rest-line → length rest ≤ length input → Reads rest-line rest room read → Reads line input room read
-behind_word line rest-line input rest room None e h r = e ∙ r
-behind_word line rest-line input rest room (Some l) e h r = record { is = e ∙ r.is; within = r.within; behind = omega (arith, r.behind) }
+-- a part that reaches to the end begins where its length says
+pub place_of : (k : ℕ) (l : List ℕ) → k ≤ length l → drop k l ≡ drop (length l - length (drop k l)) l
+place_of k l h = ap (λ (n : ℕ). drop n l) (let e = length-drop k l in let j : k ≡ length l - length (drop k l) = omega arith in j)
+
+-- a line that begins k bytes on is what stands from there on
+pub behind : (line rest-line : Line) (input buffer : List ℕ) (k : ℕ) (read : Option Read) → line ≡ rest-line → k ≤ length input → Reads rest-line (drop k input) buffer read → Reads line input buffer read
+behind line rest-line input buffer k None e h r = e ∙ r
+behind line rest-line input buffer k (Some l) e h r =
+    let gone = length-drop k input in
+    let left = length (drop k input) - length l.rest.now in
+    let place : k + left ≡ length input - length l.rest.now = omega (arith, r.behind) in
+    record { is = e ∙ r.is; within = r.within; behind = omega (arith, r.behind); place = r.place ∙ drop-drop left k input ∙ ap (λ (n : ℕ). drop n input) place }

@@ -14,14 +14,14 @@ use mathlib.Core.List.{List, [], ◌∷◌, ◌++◌, append-nil}
 use Prim.Native.Nat.{ℕ, ◌+◌, ◌*◌, ◌≤◌, ◌<◌, min}
 use native.Mathlib.Omega.{arith}
 use borrow.Author.Tests.{eq-eqb, ne_eqb}
-use lib.ListN.{length, get_or, take, drop, set, length-set, length-append, length-drop, length-take}
+use lib.ListN.{length, get_or, take, drop, set, length-set, length-append, length-drop}
 use lib.Seq.{drop-drop}
 use Rattle.algebra.specs.Prefix.{take_set_next}
 use Rattle.rules.specs.Report as report
 use Rattle.rules.specs.Report.{good, bad, newline, is_hex, hex_value, bytes_line, begins, text, second_line}
 use Rattle.report_input.specs.Lines.{Holds}
 use Rattle.rules.specs.Tests.{pick_true, pick_false}
-use Rattle.report_input.proofs.Ahead.{ahead, ahead_none, ahead_first}
+use Rattle.report_input.proofs.Ahead.{ahead, ahead_none, ahead_first, place_of}
 
 pub record BytesRead (line bytes : List ℕ) (n : ℕ) (rest : List ℕ) : Type 0 where
   pub left : rest ≡ drop (2 * n) line
@@ -82,9 +82,8 @@ module _ (line bytes : List ℕ) (n : ℕ) (pair left : List ℕ) (t : PairCut l
   head : get_or rest 0 0 ≡ get_or pair 0 0
   head = ap (λ (l : List ℕ). get_or l 0 0) t.cut ∙ same_first pair left (omega (arith, t.two, t.some))
 
-  pub newline_ends : get_or pair 0 0 ≡ newline → Holds (bytes_line line) line (length bytes) (take n bytes) (drop (2 * n + 1) line)
+  pub newline_ends : get_or pair 0 0 ≡ newline → Holds (bytes_line line) line bytes n (drop (2 * n + 1) line)
   newline_ends e =
-      let held = length-take n bytes in
       let behind = length-drop (2 * n + 1) line in
       record {
         is =
@@ -92,6 +91,7 @@ module _ (line bytes : List ℕ) (n : ℕ) (pair left : List ℕ) (t : PairCut l
             ∙ ap₂ good (append-nil (take n bytes)) (ap (drop 1) r.left ∙ drop-drop 1 (2 * n) line);
         within = omega (arith, r.room, r.here);
         behind = omega arith;
+        place = place_of (2 * n + 1) line (omega (arith, r.here, t.some));
       }
 
   module _ (other : get_or pair 0 0 ≡ newline → ⊥) where

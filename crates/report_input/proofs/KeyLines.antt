@@ -26,7 +26,7 @@ use Rattle.rules.specs.Report.{Line, good, bad, newline, space, digits_limit, ke
 use Rattle.report_input.specs.Lines.{Holds}
 use Rattle.rules.specs.Tests.{pick_true, pick_false}
 use Rattle.report_input.proofs.Tests.{digit_range}
-use Rattle.report_input.proofs.Ahead.{ahead, ahead_none, ahead_first}
+use Rattle.report_input.proofs.Ahead.{ahead, ahead_none, ahead_first, place_of}
 
 pub record KeysRead (line keys : List ℕ) (i n digits key : ℕ) : Type 0 where
   pub here : i ≤ length line
@@ -92,7 +92,7 @@ module _ (line keys : List ℕ) (i n digits key b : ℕ) (r : KeysRead line keys
               key_ends ∙ ahead_first (take n keys) key (report.behind b rest (keys_from 0 0 rest))
               ∙ ap (λ (l : List ℕ). ahead l (report.behind b rest (keys_from 0 0 rest))) (sym (take_set_next keys n key (omega (arith, r.room))))
 
-          pub stored_newline : b ≡ newline → Holds (limited (keys_from 0 0 line)) line keys_limit (take (n + 1) (set keys n key)) rest
+          pub stored_newline : b ≡ newline → Holds (limited (keys_from 0 0 line)) line (set keys n key) (n + 1) rest
           stored_newline e =
               let l = length-set keys n key in
               let all = length-take-le (n + 1) (set keys n key) (omega (arith, r.room)) in
@@ -101,8 +101,9 @@ module _ (line keys : List ℕ) (i n digits key b : ℕ) (r : KeysRead line keys
                 is =
                     ap limited (stored ∙ ap (ahead (take (n + 1) (set keys n key))) (pick_true _ _ _ (eq-eqb b newline e)) ∙ ap (λ (k : List ℕ). good k rest) (append-nil (take (n + 1) (set keys n key))))
                     ∙ pick_true (leb (length (take (n + 1) (set keys n key))) keys_limit) (good (take (n + 1) (set keys n key)) rest) bad (le-leb (length (take (n + 1) (set keys n key))) keys_limit (omega arith));
-                within = omega arith;
+                within = omega (arith, r.room);
                 behind = omega arith;
+                place = place_of (i + 1) line (omega arith);
               }
 
           module _ (more : b ≡ newline → ⊥) where

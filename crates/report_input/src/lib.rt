@@ -11,10 +11,11 @@ const SPACE: u8 = b' ';
 
 const DIGITS: u32 = 9;
 
-// A line that was read: what it holds, which stands in the buffer that was lent for it, and the bytes behind it.
+// A line that was read: how many numbers it holds, which stand at the front of the buffer that was lent for them, and
+// the bytes behind it. It borrows nothing of that buffer, so that a contract can say what the buffer holds.
 #[derive(Clone, Copy)]
-pub struct Line<'a, T> {
-    pub held: &'a [T],
+pub struct Line<'a> {
+    pub count: usize,
     pub rest: &'a [u8],
 }
 
@@ -37,9 +38,9 @@ fn one_more(b: u8, digits: u32) -> bool
 }
 
 // The keys behind a space: the line begins with the digits of the first.
-fn keys_from<'a>(line: &'a [u8], keys: &'a mut [u32]) -> Option<Line<'a, u32>>
+fn keys_from<'a>(line: &'a [u8], keys: &mut [u32]) -> Option<Line<'a>>
     requires { length keys.old ≡ keys_limit }
-    ensures { Reads (limited (keys_from 0 0 line.now)) line.now keys_limit result }
+    ensures { Reads (limited (keys_from 0 0 line.now)) line.now keys.new result }
 {
     let mut n = 0;
     let mut digits = 0;
@@ -57,7 +58,7 @@ fn keys_from<'a>(line: &'a [u8], keys: &'a mut [u32]) -> Option<Line<'a, u32>>
         n += 1;
         if b == NEWLINE {
             return Some(Line {
-                held: &keys[..n],
+                count: n,
                 rest: &line[i + 1..],
             });
         }
@@ -71,34 +72,34 @@ fn keys_from<'a>(line: &'a [u8], keys: &'a mut [u32]) -> Option<Line<'a, u32>>
 }
 
 // What stands behind `have`: the end of the line, or a space and the keys.
-fn keys_line<'a>(line: &'a [u8], keys: &'a mut [u32]) -> Option<Line<'a, u32>>
+fn keys_line<'a>(line: &'a [u8], keys: &mut [u32]) -> Option<Line<'a>>
     requires { length keys.old ≡ keys_limit }
-    ensures { Reads (limited (keys_line line.now)) line.now keys_limit result }
+    ensures { Reads (limited (keys_line line.now)) line.now keys.new result }
 {
     match line {
-        [NEWLINE, rest @ ..] => Some(Line { held: &[], rest }),
+        [NEWLINE, rest @ ..] => Some(Line { count: 0, rest }),
         [SPACE, rest @ ..] => keys_from(rest, keys),
         _ => None,
     }
 }
 
 // "Line 1 is `have`, then each key of 1 to 9 digits after one space; there may be none."
-pub fn first_line<'a>(input: &'a [u8], keys: &'a mut [u32]) -> Option<Line<'a, u32>>
+pub fn first_line<'a>(input: &'a [u8], keys: &mut [u32]) -> Option<Line<'a>>
     requires { length keys.old ≡ keys_limit }
-    ensures { Reads (first_line input.now) input.now keys_limit result }
+    ensures { Reads (first_line input.now) input.now keys.new result }
 {
     keys_line(input.strip_prefix(b"have")?, keys)
 }
 
 // Pairs of hex digits up to the end of the line.
-fn bytes_line<'a>(line: &'a [u8], bytes: &'a mut [u8]) -> Option<Line<'a, u8>>
+fn bytes_line<'a>(line: &'a [u8], bytes: &mut [u8]) -> Option<Line<'a>>
     requires { length line.now ≤ 2 * length bytes.old }
-    ensures { Reads (bytes_line line.now) line.now (length bytes.old) result }
+    ensures { Reads (bytes_line line.now) line.now bytes.new result }
 {
     for (n, pair) in line.chunks(2).enumerate() {
         if pair[0] == NEWLINE {
             return Some(Line {
-                held: &bytes[..n],
+                count: n,
                 rest: &line[2 * n + 1..],
             });
         }
@@ -109,9 +110,9 @@ fn bytes_line<'a>(line: &'a [u8], bytes: &'a mut [u8]) -> Option<Line<'a, u8>>
 }
 
 // "Line 2 is `message`, one space and an even number of hex digits, perhaps none."
-pub fn second_line<'a>(input: &'a [u8], bytes: &'a mut [u8]) -> Option<Line<'a, u8>>
+pub fn second_line<'a>(input: &'a [u8], bytes: &mut [u8]) -> Option<Line<'a>>
     requires { length input.now ≤ 2 * length bytes.old }
-    ensures { Reads (second_line input.now) input.now (length bytes.old) result }
+    ensures { Reads (second_line input.now) input.now bytes.new result }
 {
     bytes_line(input.strip_prefix(b"message ")?, bytes)
 }

@@ -3,6 +3,7 @@
 #![tactic(auto)]
 
 ghost use Rattle.std.specs.Prelude.{◌≡◌, cond, [], ◌≤◌};
+ghost use Rattle.arrayvec.specs.ArrayVec.{array_vec_len};
 ghost use Rattle.rules.specs.Calls.{sketch_result, add_result, remove_result};
 
 use arrayvec::ArrayVec;
@@ -17,7 +18,9 @@ const SPREAD: u32 = rules::KEY_LIMIT / 63;
 const UPDATES: u32 = 400;
 
 // The keys that are in, in order.
-fn collect(inside: &[bool; 64]) -> ArrayVec<u32, 64> {
+fn collect(inside: &[bool; 64]) -> ArrayVec<u32, 64>
+    ensures { array_vec_len result ≤ 64 }
+{
     let mut keys = ArrayVec::new();
     for (j, is_in) in inside.iter().enumerate() {
         if *is_in {

@@ -31,7 +31,7 @@ loop-n-init c = rw (c.into_iter-n-iterator.ensures.into_iter_gives, c.enumerate-
 pub returns-then-pair-eq-NEWLINE : goal.returns-then-pair-eq-NEWLINE
 returns-then-pair-eq-NEWLINE c =
     let turn = next (goal.at.returns-then-pair-eq-NEWLINE c).In-Some in
-    rw (to_end (2 * c.in-Some.n + 1) c.args.line.now, sym c.loop-n.invariant.1) (newline_ends _ _ _ _ _ turn c.if-pair-eq-NEWLINE.true)
+    rw (to_end (2 * c.in-Some.n + 1) c.args.line.now) (newline_ends _ _ _ _ _ turn c.if-pair-eq-NEWLINE.true)
 
 pub returns-in_default : goal.returns-in_default
 returns-in_default c =

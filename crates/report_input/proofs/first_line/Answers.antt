@@ -1,12 +1,13 @@
 -- `report_input::first_line` meets its contract: the word, and what stands behind it.
 -- Assumes nothing.
-use mathlib.Core.Path.{sym, ap, ◌∙◌}
+use mathlib.Core.Path.{sym, subst, ◌∙◌}
 use mathlib.Core.List.{List}
 use Prim.Native.Nat.{ℕ}
 use native.Mathlib.Omega.{arith}
 use Rattle.rules.specs.Report.{text, keys_line, limited}
 use Rattle.report_input.proofs.Words.{begins_is}
-use Rattle.report_input.proofs.Ahead.{behind_word}
+use Rattle.report_input.specs.Lines.{Reads}
+use Rattle.report_input.proofs.Ahead.{behind}
 use Rattle.report_input.proofs.KeyLines.{no_word, word}
 use Rattle.report_input.proofs.first_line.Goals as goal
 
@@ -19,4 +20,5 @@ pub returns : goal.returns
 returns c =
     let input = c.args.input.now in
     let stripped = c.in_ok-strip_prefix.ensures.cases in
-    behind_word _ _ _ _ _ _ (word input (sym (begins_is (text "have") input) ∙ stripped.0) ∙ ap (λ (l : List ℕ). limited (keys_line l)) (sym stripped.1)) (omega (arith, stripped.2)) c.keys_line.ensures
+    behind _ _ input _ 4 _ (word input (sym (begins_is (text "have") input) ∙ stripped.0)) (omega (arith, stripped.2))
+    (subst (λ (l : List ℕ). Reads (limited (keys_line l)) l c.keys_line.new.keys c.keys_line.result) stripped.1 c.keys_line.ensures)

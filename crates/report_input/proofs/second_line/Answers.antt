@@ -1,10 +1,13 @@
 -- `report_input::second_line` meets its contract: the word, and what stands behind it.
 -- Assumes nothing.
-use mathlib.Core.Path.{sym, ap, ◌∙◌}
+use mathlib.Core.Path.{sym, subst, ◌∙◌}
+use mathlib.Core.List.{List}
+use Prim.Native.Nat.{ℕ}
 use native.Mathlib.Omega.{arith}
 use Rattle.rules.specs.Report.{text, bytes_line}
 use Rattle.report_input.proofs.Words.{begins_is}
-use Rattle.report_input.proofs.Ahead.{behind_word}
+use Rattle.report_input.specs.Lines.{Reads}
+use Rattle.report_input.proofs.Ahead.{behind}
 use Rattle.report_input.proofs.ByteLines.{no_word, word}
 use Rattle.report_input.proofs.second_line.Goals as goal
 
@@ -17,4 +20,5 @@ pub returns : goal.returns
 returns c =
     let input = c.args.input.now in
     let stripped = c.in_ok-strip_prefix.ensures.cases in
-    behind_word _ _ _ _ _ _ (word input (sym (begins_is (text "message ") input) ∙ stripped.0) ∙ ap (bytes_line) (sym stripped.1)) (omega (arith, stripped.2)) c.bytes_line.ensures
+    behind _ _ input _ 8 _ (word input (sym (begins_is (text "message ") input) ∙ stripped.0)) (omega (arith, stripped.2))
+    (subst (λ (l : List ℕ). Reads (bytes_line l) l c.bytes_line.new.bytes c.bytes_line.result) stripped.1 c.bytes_line.ensures)
